@@ -1,0 +1,4 @@
+// Why a call is declined.
+mod reason;
+
+pub use reason::Refusal;
