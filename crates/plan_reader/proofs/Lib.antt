@@ -1,0 +1,5 @@
+pub mod Listed
+pub mod MarkLaws
+pub mod Moves
+pub mod RepeatLaws
+pub mod RowLaws

@@ -1,0 +1,90 @@
+-- By how many bits a reading moves on, at most.
+use mathlib.Core.List.{List, [], _∷_, _++_}
+use mathlib.Core.Path.{_≡_, refl, sym, _∙_, ap}
+use mathlib.Core.Bool.{Bool, true, false, _&&_}
+use Prim.Native.Nat.{ℕ, zero, suc, _+_, _*_, _≤_, _<_}
+use native.Mathlib.Omega.{arith}
+use native.Mathlib.Nat.{mul-suc}
+use lib.Dec.{leb, ltb}
+use lib.ListN.{length, getD}
+use Rattle.std.proofs.shelf.Tests.{leb-true, and-parts}
+use Rattle.refusal.specs.declared.reason.Refusal.{Refusal}
+use Rattle.refusal.specs.declared.reason.Refusal.the-variants.{CutShort, OutOfRange, NotAscending, TooManyRows}
+use Rattle.model.specs.Plan.{Table, rows-in}
+use Rattle.model.specs.Tests.{below}
+use Rattle.plan_format.specs.Bits.{number-at}
+use Rattle.plan_format.specs.Reading.{Read, got, then, given, repeat, may-follow, number, ranged, number-below, header, setting, value, row, table}
+use Rattle.plan_format.proofs.Exactly.{then-got, given-got, got-at, got-is}
+
+abbrev pub Moves : {A : Type 0} → (ℕ → Read A) → ℕ → Type 0
+Moves {A} read w = (p : ℕ) (a : A) (q : ℕ) → read p ≡ got a q → q ≤ p + w
+
+number-moves : (b : List ℕ) (w : ℕ) → Moves (number b w) w
+number-moves b w p a q e =
+    let g = given-got (leb (p + w) (length b)) (CutShort p) (got (number-at b p w) (p + w)) a q e in
+    omega (arith, got-at (number-at b p w) a (p + w) q (g .1))
+
+then-moves : {A B : Type 0} (first : ℕ → Read A) (rest : ℕ → A → ℕ → Read B) (v w : ℕ)
+    → Moves first v → ((p : ℕ) (a : A) → Moves (rest p a) w) → Moves (λ p. then (first p) (rest p)) (v + w)
+then-moves first rest v w x y p a q e =
+    let t = then-got (first p) (rest p) a q e in
+    let i = x p (t .0) (t .1) (t .2) in
+    let j = y p (t .0) (t .1) a q (t .3) in
+    omega (arith, i, j)
+
+given-moves : {A : Type 0} (test : Bool) (why : Refusal) (read : ℕ → Read A) (w : ℕ) → Moves read w → Moves (λ p. given test why (read p)) w
+given-moves test why read w x p a q e = x p a q (given-got test why (read p) a q e .1)
+
+-- a test of what was read takes no bit
+tested-moves : {A : Type 0} (read : ℕ → Read A) (test : A → Bool) (why : ℕ → Refusal) (w : ℕ)
+    → Moves read w → Moves (λ p. then (read p) (λ a q. given (test a) (why p) (got a q))) w
+tested-moves {A} read test why w x p a q e =
+    let t = then-got (read p) (λ (a : A) (q : ℕ). given (test a) (why p) (got a q)) a q e in
+    let g = given-got (test (t .0)) (why p) (got (t .0) (t .1)) a q (t .3) in
+    x p a q (t .2 ∙ g .1)
+
+repeat-moves : {A : Type 0} (one : List A → ℕ → Read A) (w : ℕ) → ((xs : List A) → Moves (one xs) w) → (n : ℕ) → Moves (repeat one n) (w * n)
+repeat-moves one w x zero p a q e = omega (arith, got-at [] a p q e)
+repeat-moves {A} one w x (suc n) p a q e =
+    let t = then-got (repeat one n p) (λ (xs : List A) (q : ℕ). then (one xs q) (λ (x : A) (r : ℕ). got (xs ++ x ∷ []) r)) a q e in
+    let u = then-got (one (t .0) (t .1)) (λ (x : A) (r : ℕ). got (t .0 ++ x ∷ []) r) a q (t .3) in
+    let i = repeat-moves one w x n p (t .0) (t .1) (t .2) in
+    let j = x (t .0) (t .1) (u .0) (u .1) (u .2) in
+    let k = got-at (t .0 ++ u .0 ∷ []) a (u .1) q (u .3) in
+    rw mul-suc (omega (arith, i, j, k))
+
+pub ranged-moves : (b : List ℕ) (w lo hi : ℕ) → Moves (ranged b w lo hi) w
+ranged-moves b w lo hi = tested-moves (number b w) (λ v. leb lo v && leb v hi) OutOfRange w (number-moves b w)
+
+pub below-moves : (b : List ℕ) (n : ℕ) → Moves (number-below b n) 5
+below-moves b n = tested-moves (number b 5) (λ v. ltb v n) OutOfRange 5 (number-moves b 5)
+
+pub counts-move : (b : List ℕ) (n : ℕ) → Moves (repeat (λ _. ranged b 6 1 32) n) (6 * n)
+counts-move b = repeat-moves (λ _. ranged b 6 1 32) 6 (λ _. ranged-moves b 6 1 32)
+
+pub setting-moves : (b : List ℕ) (n : ℕ) (before : List ℕ) → Moves (setting b n before) 5
+setting-moves b n before = tested-moves (number-below b n) (may-follow ltb before) NotAscending 5 (below-moves b n)
+
+pub scope-moves : (b : List ℕ) (n w : ℕ) → Moves (repeat (setting b n) w) (5 * w)
+scope-moves b n = repeat-moves (setting b n) 5 (setting-moves b n)
+
+pub values-move : (b counts scope : List ℕ) (n : ℕ) → Moves (repeat (value b counts scope) n) (5 * n)
+values-move b counts scope = repeat-moves (value b counts scope) 5 (λ before. below-moves b (getD counts (getD scope (length before) 0) 0))
+
+-- a row of a table that names at most 32 settings
+pub row-moves : (b counts scope : List ℕ) (before : List (List ℕ)) → length scope ≤ 32 → Moves (row b counts scope before) 160
+row-moves b counts scope before few p r q e =
+    let m = tested-moves (repeat (value b counts scope) (length scope)) (may-follow below before) NotAscending (5 * length scope) (values-move b counts scope (length scope)) p r q e in
+    omega (arith, m)
+
+pub rows-move : (b counts scope : List ℕ) (n : ℕ) → length scope ≤ 32 → Moves (repeat (row b counts scope) n) (160 * n)
+rows-move b counts scope n few = repeat-moves (row b counts scope) 160 (λ before. row-moves b counts scope before few) n
+
+-- a number in a range is in that range
+pub ranged-within : (b : List ℕ) (w lo hi p v q : ℕ) → ranged b w lo hi p ≡ got v q → (lo ≤ v) × (v ≤ hi)
+ranged-within b w lo hi p v q e =
+    let t = then-got (number b w p) (λ (v : ℕ) (q : ℕ). given (leb lo v && leb v hi) (OutOfRange p) (got v q)) v q e in
+    let g = given-got (leb lo (t .0) && leb (t .0) hi) (OutOfRange p) (got (t .0) (t .1)) v q (t .3) in
+    let a = and-parts (leb lo (t .0)) (leb (t .0) hi) (g .0) in
+    let i : t .0 ≡ v = got-is (t .0) v (t .1) q (g .1) in
+    (omega (arith, leb-true lo (t .0) (a .0), i), omega (arith, leb-true (t .0) hi (a .1), i))
