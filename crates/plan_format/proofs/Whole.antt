@@ -49,12 +49,11 @@ module _ (file counts : List ℕ) (few : length counts ≤ 32) (each : Each InCo
 abbrev PlanRead : Plan → Type 0
 PlanRead p = GoodCounts (p .counts) × CountedTables (p .counts) p
 
-body-exact : (file : List ℕ) (p : Plan) (q : ℕ)
-    → (body (bits file) ≡ got p q → PlanRead p × Stands (bits file) 0 (spell-plan p) q) × (PlanRead p × Stands (bits file) 0 (spell-plan p) q → body (bits file) ≡ got p q)
+body-exact : (file : List ℕ) → Exact (bits file) (body (bits file)) PlanRead spell-plan
 body-exact file =
     then-exact (bits file) (header (bits file)) (λ _. _) GoodCounts CountedTables
     spell-header (λ p. spell 5 (length (p .tables)) ++ joined spell-table (p .tables)) (λ p. p .counts)
-    (header-exact file) (λ _ counts g. rest-exact file counts (g .1) (g .2)) (λ counts p g h. sym (h .1 .0)) 0
+    (header-exact file) (λ _ counts g. rest-exact file counts (g .1) (g .2)) (λ counts p g h. sym (h .1 .0))
 
 plan-words : (p : Plan)
     → (PlanRead p × (all-named (length (p .counts)) (p .tables) ≡ true) → Valid p) × (Valid p → PlanRead p × (all-named (length (p .counts)) (p .tables) ≡ true))
@@ -89,12 +88,12 @@ reads-exactly file p q = (reads, stands)
   where
     reads : read file ≡ got p q → Valid p × FileOf p file × (q ≡ length (spell-plan p))
     reads e =
-        let t = then-got (body (bits file)) (λ (p : Plan) (r : ℕ). given (all-named (length (p .counts)) (p .tables)) (Unnamed r) (given (padded (bits file) r) (NotPadded r) (got p r))) p q e in
+        let t = then-got (body (bits file) 0) (λ (p : Plan) (r : ℕ). given (all-named (length (p .counts)) (p .tables)) (Unnamed r) (given (padded (bits file) r) (NotPadded r) (got p r))) p q e in
         let g = given-got (all-named (length (t .0 .counts)) (t .0 .tables)) (Unnamed (t .1)) (given (padded (bits file) (t .1)) (NotPadded (t .1)) (got (t .0) (t .1))) p q (t .3) in
         let h = given-got (padded (bits file) (t .1)) (NotPadded (t .1)) (got (t .0) (t .1)) p q (g .1) in
         let is : t .0 ≡ p = got-is (t .0) p (t .1) q (h .1) in
         let at : t .1 ≡ q = got-at (t .0) p (t .1) q (h .1) in
-        let r = body-exact file p q .0 (t .2 ∙ h .1) in
+        let r = body-exact file 0 p q .0 (t .2 ∙ h .1) in
         let n : all-named (length (p .counts)) (p .tables) ≡ true = subst (λ (x : Plan). all-named (length (x .counts)) (x .tables) ≡ true) is (g .0) in
         let d : padded (bits file) q ≡ true = subst (λ k. padded (bits file) k ≡ true) at (h .0) in
         (plan-words p .0 (r .0, n), padding-from (bits file) (spell-plan p) q (r .1) d, stands-end (bits file) 0 (spell-plan p) q (r .1) ∙ omega arith)
@@ -103,7 +102,7 @@ reads-exactly file p q = (reads, stands)
     stands h =
         let v = plan-words p .1 (h .0) in
         let d = padding-to (bits file) (spell-plan p) q (h .1 .0) (h .1 .1) (h .1 .2) (h .2) in
-        let r : body (bits file) ≡ got p q = body-exact file p q .1 (v .0, d .0) in
+        let r : body (bits file) 0 ≡ got p q = body-exact file 0 p q .1 (v .0, d .0) in
         let n = v .1 in
         let m = d .1 in
         rw (r, n, m) refl

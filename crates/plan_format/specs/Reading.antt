@@ -82,12 +82,12 @@ table b counts before p =
     (λ rows t. got (record { scope = scope; rows = rows }) t)))))
 
 -- a plan: header, table count, tables
-abbrev pub body : List ℕ → Read Plan
-body b =
-    then (header b 0)
-    (λ counts p. then (ranged b 5 1 16 p)
-    (λ n q. then (repeat (table b counts) n q)
-    (λ tables r. got (record { counts = counts; tables = tables }) r)))
+abbrev pub body : List ℕ → ℕ → Read Plan
+body b p =
+    then (header b p)
+    (λ counts q. then (ranged b 5 1 16 q)
+    (λ n r. then (repeat (table b counts) n r)
+    (λ tables s. got (record { counts = counts; tables = tables }) s)))
 
 -- all are 0
 abbrev pub zeros : List ℕ → Bool
@@ -101,7 +101,7 @@ padded b p = ltb (length b - p) 8 && zeros (drop p b)
 -- a file: a plan in which every setting is named, and nothing after it but padding
 abbrev pub read : List ℕ → Read Plan
 read file =
-    then (body (bits file))
+    then (body (bits file) 0)
     (λ p q. given (all-named (length (p .counts)) (p .tables)) (Unnamed q)
     (given (padded (bits file) q) (NotPadded q)
     (got p q)))

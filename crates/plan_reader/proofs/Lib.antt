@@ -1,5 +1,8 @@
+pub mod FileLaws
 pub mod Listed
 pub mod MarkLaws
 pub mod Moves
+pub mod PaddingLaws
 pub mod RepeatLaws
 pub mod RowLaws
+pub mod TableLaws

@@ -13,8 +13,9 @@ use Rattle.refusal.specs.declared.reason.Refusal.the-variants.{CutShort, OutOfR
 use Rattle.model.specs.Plan.{Table, rows-in}
 use Rattle.model.specs.Tests.{below}
 use Rattle.plan_format.specs.Bits.{number-at}
-use Rattle.plan_format.specs.Reading.{Read, got, then, given, repeat, may-follow, number, ranged, number-below, header, setting, value, row, table}
+use Rattle.plan_format.specs.Reading.{Read, got, then, given, repeat, may-follow, number, ranged, number-below, header, setting, value, row, table, body}
 use Rattle.plan_format.proofs.Exactly.{then-got, given-got, got-at, got-is}
+use Rattle.plan_reader.proofs.RepeatLaws.{repeat-length}
 
 abbrev pub Moves : {A : Type 0} → (ℕ → Read A) → ℕ → Type 0
 Moves {A} read w = (p : ℕ) (a : A) (q : ℕ) → read p ≡ got a q → q ≤ p + w
@@ -88,3 +89,45 @@ ranged-within b w lo hi p v q e =
     let a = and-parts (leb lo (t .0)) (leb (t .0) hi) (g .0) in
     let i : t .0 ≡ v = got-is (t .0) v (t .1) q (g .1) in
     (omega (arith, leb-true lo (t .0) (a .0), i), omega (arith, leb-true (t .0) hi (a .1), i))
+
+pub table-moves : (b counts : List ℕ) (before : List Table) → Moves (table b counts before) 82000
+table-moves b counts before p t q e =
+    let t1 = then-got (ranged b 4 1 8 p) _ t q e in
+    let t2 = then-got (repeat (setting b (length counts)) (t1 .0) (t1 .1)) _ t q (t1 .3) in
+    let t3 = then-got (ranged b 10 0 512 (t2 .1)) _ t q (t2 .3) in
+    let g = given-got (leb (rows-in before + t3 .0) 4096) (TooManyRows (t2 .1)) _ t q (t3 .3) in
+    let t4 = then-got (repeat (row b counts (t2 .0)) (t3 .0) (t3 .1)) _ t q (g .1) in
+    let w = ranged-within b 4 1 8 p (t1 .0) (t1 .1) (t1 .2) .1 in
+    let n = ranged-within b 10 0 512 (t2 .1) (t3 .0) (t3 .1) (t3 .2) .1 in
+    let l = repeat-length (setting b (length counts)) (t1 .0) (t1 .1) (t2 .0) (t2 .1) (t2 .2) in
+    let m1 = ranged-moves b 4 1 8 p (t1 .0) (t1 .1) (t1 .2) in
+    let m2 = scope-moves b (length counts) (t1 .0) (t1 .1) (t2 .0) (t2 .1) (t2 .2) in
+    let m3 = ranged-moves b 10 0 512 (t2 .1) (t3 .0) (t3 .1) (t3 .2) in
+    let m4 = rows-move b counts (t2 .0) (t3 .0) (omega (arith, l, w)) (t3 .1) (t4 .0) (t4 .1) (t4 .2) in
+    let end = got-at (record { scope = t2 .0; rows = t4 .0 }) t (t4 .1) q (t4 .3) in
+    omega (arith, w, n, m1, m2, m3, m4, end)
+
+pub tables-move : (b counts : List ℕ) (n : ℕ) → Moves (repeat (table b counts) n) (82000 * n)
+tables-move b counts = repeat-moves (table b counts) 82000 (table-moves b counts)
+
+pub header-moves : (b : List ℕ) → Moves (header b) 206
+header-moves b p counts q e =
+    let t1 = then-got (ranged b 8 1 1 p) _ counts q e in
+    let t2 = then-got (ranged b 6 1 32 (t1 .1)) _ counts q (t1 .3) in
+    let n = ranged-within b 6 1 32 (t1 .1) (t2 .0) (t2 .1) (t2 .2) .1 in
+    let m1 = ranged-moves b 8 1 1 p (t1 .0) (t1 .1) (t1 .2) in
+    let m2 = ranged-moves b 6 1 32 (t1 .1) (t2 .0) (t2 .1) (t2 .2) in
+    let m3 = counts-move b (t2 .0) (t2 .1) counts q (t2 .3) in
+    omega (arith, n, m1, m2, m3)
+
+pub body-moves : (b : List ℕ) → Moves (body b) 1400000
+body-moves b p plan q e =
+    let t1 = then-got (header b p) _ plan q e in
+    let t2 = then-got (ranged b 5 1 16 (t1 .1)) _ plan q (t1 .3) in
+    let t3 = then-got (repeat (table b (t1 .0)) (t2 .0) (t2 .1)) _ plan q (t2 .3) in
+    let n = ranged-within b 5 1 16 (t1 .1) (t2 .0) (t2 .1) (t2 .2) .1 in
+    let m1 = header-moves b p (t1 .0) (t1 .1) (t1 .2) in
+    let m2 = ranged-moves b 5 1 16 (t1 .1) (t2 .0) (t2 .1) (t2 .2) in
+    let m3 = tables-move b (t1 .0) (t2 .0) (t2 .1) (t3 .0) (t3 .1) (t3 .2) in
+    let end = got-at (record { counts = t1 .0; tables = t3 .0 }) plan (t3 .1) q (t3 .3) in
+    omega (arith, n, m1, m2, m3, end)

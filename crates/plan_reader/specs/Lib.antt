@@ -1,3 +1,4 @@
+pub mod Checking
 pub mod Lists
 pub mod Marks
 pub mod Outcomes

@@ -1,5 +1,6 @@
 ghost use lib.ListN.{length};
 ghost use mathlib.Core.Path.{_≡_};
+
 mod methods;
 
 // Which of 32 settings are named by the tables so far.

@@ -53,7 +53,12 @@ impl Reader<'_> {
     }
 
     // A row, above the last one before it.
-    fn row(&mut self, counts: &ShortList, scope: &ShortList, last: &Option<ShortList>) -> Result<ShortList, Refusal>
+    fn row(
+        &mut self,
+        counts: &ShortList,
+        scope: &ShortList,
+        last: &Option<ShortList>,
+    ) -> Result<ShortList, Refusal>
         requires { ⌜ now self .place < 2 ^ 30 ⌝ }
         ensures reads { λ r. ⌜ ((before : List (List ℕ)) → Last before (now (last .entry)) → outcome-as listed r (now (self .exit) .place) ≡ rowOf (bits (now (now (self .entry) .file))) (listed (now (counts .entry))) (listed (now (scope .entry))) before (now (self .entry) .place)) ⌝ }
         ensures same { λ _. ⌜ now (now (self .exit) .file) ≡ now (now (self .entry) .file) ⌝ }
@@ -67,7 +72,12 @@ impl Reader<'_> {
     }
 
     // `count` rows, ascending.
-    pub(crate) fn rows(&mut self, counts: &ShortList, scope: &ShortList, count: u16) -> Result<(), Refusal>
+    pub(crate) fn rows(
+        &mut self,
+        counts: &ShortList,
+        scope: &ShortList,
+        count: u16,
+    ) -> Result<(), Refusal>
         requires { ⌜ count ≤ 512 ⌝ ∗ ⌜ now self .place < 2 ^ 29 ⌝ }
         ensures reads { λ r. ⌜ Reads r (repeat (rowOf (bits (now (now (self .entry) .file))) (listed (now (counts .entry))) (listed (now (scope .entry)))) count (now (self .entry) .place)) (λ _ rows q. now (self .exit) .place ≡ q) ⌝ }
         ensures same { λ _. ⌜ now (now (self .exit) .file) ≡ now (now (self .entry) .file) ⌝ }

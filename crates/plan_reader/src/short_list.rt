@@ -1,6 +1,7 @@
 ghost use lib.ListN.{length};
 ghost use mathlib.Core.Path.{_≡_};
 ghost use Prim.Native.Nat.{_≤_};
+
 mod methods;
 
 // Up to 32 small numbers, in the order in which they came: value counts, a scope or a row.

@@ -39,7 +39,7 @@ loop-again c =
       (
         rows ++ row ∷ [],
         repeat-more (one (listed (c .args .counts .now)) (listed (c .args .scope .now))) (c .loop .self .file .now) (c .args .self .now .file .now) (c .loop .inv .1)
-        (c .loop .counter) (c .args .self .now .place) (c .loop .self .place) rows (c .loop .inv .0 .1) (c .row .last .self .place) row (rows ++ row ∷ []) (h .reads rows (c .loop .inv .0 .2)) refl,
+            (c .loop .counter) (c .args .self .now .place) (c .loop .self .place) rows (c .loop .inv .0 .1) (c .row .last .self .place) row (rows ++ row ∷ []) (h .reads rows (c .loop .inv .0 .2)) refl,
         follow-last below rows row,
       ),
       h .same ∙ c .loop .inv .1,

@@ -36,6 +36,6 @@ pub loop-again : need.loop-again
 loop-again c =
     let h = c .in-Continue-setting .ensures tt in (
       repeat-more (one (c .args .n)) (c .loop .self .file .now) (c .args .self .now .file .now) (c .loop .inv .1) (c .loop .counter) (c .args .self .now .place) (c .loop .self .place) (listed (c .loop .scope)) (c .loop .inv .0)
-      (c .setting .last .self .place) (c .in-Continue-setting .setting) (listed (c .push .last .self)) (h .reads) (c .push .ensures),
+          (c .setting .last .self .place) (c .in-Continue-setting .setting) (listed (c .push .last .self)) (h .reads) (c .push .ensures),
       h .same ∙ c .loop .inv .1,
     )

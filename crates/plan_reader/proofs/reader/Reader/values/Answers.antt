@@ -40,7 +40,7 @@ returns-in-Break-value c =
     let h = c .in-Break-value .ensures tt in
     let x = err-from-errBy (c .from-residual .result) (c .from-residual .ensures .1) in
     let r : refused (c .in-Break-value .field-0 .0) ≡ one counts scope now values q =
-        h .reads ∙ limit counts scope file now values (c .loop-k .k) p q (c .at .result) (c .at-count .result) (c .loop-k .inv .0) (c .at .ensures) (c .at-count .ensures) in
+    h .reads ∙ limit counts scope file now values (c .loop-k .k) p q (c .at .result) (c .at-count .result) (c .loop-k .inv .0) (c .at .ensures) (c .at-count .ensures) in
     rw (x .1, x .2) (record {
       reads = repeat-stops (one counts scope) now file (c .loop-k .inv .1) (c .loop-k .k) p q values (c .loop-k .inv .0) (length scope) (c .in-Break-value .field-0 .0) (omega (arith, c .len-k-end .ensures)) r;
       same = h .same ∙ c .loop-k .inv .1;
@@ -63,8 +63,8 @@ loop-k-again c =
     let q = c .loop-k .self .place in
     let h = c .in-Continue-value .ensures tt in
     let r : got (c .in-Continue-value .value) (c .below .last .self .place) ≡ one counts scope now values q =
-        h .reads ∙ limit counts scope file now values (c .loop-k .k) p q (c .at .result) (c .at-count .result) (c .loop-k .inv .0) (c .at .ensures) (c .at-count .ensures) in (
+    h .reads ∙ limit counts scope file now values (c .loop-k .k) p q (c .at .result) (c .at-count .result) (c .loop-k .inv .0) (c .at .ensures) (c .at-count .ensures) in (
       repeat-more (one counts scope) now file (c .loop-k .inv .1) (c .loop-k .k) p q values (c .loop-k .inv .0)
-      (c .below .last .self .place) (c .in-Continue-value .value) (listed (c .push .last .self)) r (c .push .ensures),
+          (c .below .last .self .place) (c .in-Continue-value .value) (listed (c .push .last .self)) r (c .push .ensures),
       h .same ∙ c .loop-k .inv .1,
     )

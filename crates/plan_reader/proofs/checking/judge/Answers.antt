@@ -1,0 +1,59 @@
+use native.Mathlib.Omega.{arith}
+use mathlib.Core.Path.{_≡_, refl, _∙_, sym, ap}
+use mathlib.Core.Bool.{true, false}
+use Prim.Native.Nat.{ℕ, _*_}
+use lib.ListN.{length}
+use Rattle.std.specs.declared.result.Result.the-variants.{Ok, Err}
+use Rattle.refusal.specs.declared.reason.Refusal.{Refusal}
+use Rattle.refusal.specs.declared.reason.Refusal.the-variants.{Unnamed, NotPadded}
+use Rattle.model.specs.Plan.{Plan, sum, row-count, value-count}
+use Rattle.model.specs.Tests.{all-named}
+use Rattle.plan_format.specs.Bits.{bits}
+use Rattle.plan_format.specs.Reading.{padded}
+use Rattle.plan_reader.specs.Checking.{numbers-of, answer}
+use Rattle.plan_reader.specs.Lists.{listed}
+use Rattle.plan_reader.proofs.FileLaws.{marks-tell, read-unnamed, read-unpadded, read-got}
+use Rattle.plan_reader.proofs.Moves.{body-moves}
+use Rattle.plan_reader.proofs.checking.judge.Needs as need
+
+pub returns-then-not-has-all : need.returns-then-not-has-all
+returns-then-not-has-all c =
+    let file = c .args .file .now in
+    let h = c .in-Continue-plan .ensures tt .reads in
+    let p : Plan = h .0 in
+    let a = h .3 in
+    let n : all-named (length (p .counts)) (p .tables) ≡ false =
+    sym (marks-tell (c .in-Continue-plan .plan .counts) (c .in-Continue-plan .plan .named) p (c .len .result) (a .1) (a .2) (c .len .ensures)) ∙ sym (c .if-not-has-all .ensures tt) in
+    ap (λ k. Err (Unnamed k)) (a .0) ∙ sym (ap (answer numbers-of) (read-unnamed file p (h .1) (h .2) n))
+
+pub is-padded-requires : need.is-padded-requires
+is-padded-requires c κs =
+    let h = c .in-Continue-plan .ensures tt .reads in
+    omega (arith, body-moves (bits (c .args .file .now)) 0 (h .0) (h .1) (h .2), h .3 .0)
+
+pub returns-then-not-is-padded : need.returns-then-not-is-padded
+returns-then-not-is-padded c =
+    let file = c .args .file .now in
+    let h = c .in-Continue-plan .ensures tt .reads in
+    let p : Plan = h .0 in
+    let a = h .3 in
+    let n : all-named (length (p .counts)) (p .tables) ≡ true =
+    sym (marks-tell (c .in-Continue-plan .plan .counts) (c .in-Continue-plan .plan .named) p (c .len .result) (a .1) (a .2) (c .len .ensures)) ∙ sym (c .if-not-has-all .ensures tt) in
+    let d : padded (bits file) (h .1) ≡ false = ap (padded (bits file)) (sym (a .0)) ∙ sym (c .if-not-is-padded .ensures tt) in
+    ap (λ k. Err (NotPadded k)) (a .0) ∙ sym (ap (answer numbers-of) (read-unpadded file p (h .1) (h .2) n d))
+
+pub returns : need.returns
+returns c =
+    let file = c .args .file .now in
+    let h = c .in-Continue-plan .ensures tt .reads in
+    let p : Plan = h .0 in
+    let a = h .3 in
+    let n : all-named (length (p .counts)) (p .tables) ≡ true =
+    sym (marks-tell (c .in-Continue-plan .plan .counts) (c .in-Continue-plan .plan .named) p (c .len .result) (a .1) (a .2) (c .len .ensures)) ∙ sym (c .if-not-has-all .ensures tt) in
+    let d : padded (bits file) (h .1) ≡ true = ap (padded (bits file)) (sym (a .0)) ∙ sym (c .if-not-is-padded .ensures tt) in
+    let settings : c .len-2 .result ≡ length (p .counts) = c .len-2 .ensures ∙ ap length (a .1) in
+    let tables : c .from .result ≡ length (p .tables) = c .from .ensures ∙ a .3 in
+    let rows : c .from-rows .result ≡ row-count p = c .from-rows .ensures ∙ a .4 in
+    let values : c .sum .result ≡ value-count p = c .sum .ensures ∙ ap sum (a .1) in
+    (λ i. Ok (record { settings = settings i; tables = tables i; rows = rows i; values = values i; cells = 8 * rows i }))
+    ∙ sym (ap (answer numbers-of) (read-got file p (h .1) (h .2) n d))
