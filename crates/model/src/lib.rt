@@ -1,8 +1,8 @@
 // The plan as a model: what a plan is and which rules it keeps. Everything above speaks of it.
 ghost use Rattle.model.specs.Tests.{Tests-decide};
 
-// The tests of rows and of named settings decide the rules that they test.
-pub fn tests_decide() -> u8
+// Two rules are decided by tests: that a row is below another, and that every setting is named.
+pub fn decides_the_rules() -> u8
     ensures { λ _. ⌜ Tests-decide ⌝ }
 {
     0

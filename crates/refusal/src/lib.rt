@@ -2,3 +2,5 @@
 mod reason;
 
 pub use reason::Refusal;
+pub use reason::RefusalDebug;
+pub use reason::RefusalPartialEq;

@@ -1,5 +1,5 @@
 use Rattle.model.proofs.Deciding.{below-decides, all-named-decides}
-use Rattle.model.proofs.tests_decide.Needs as need
+use Rattle.model.proofs.decides_the_rules.Needs as need
 
 pub returns : need.returns
 returns c = record { rows = below-decides; settings = all-named-decides }

@@ -1,0 +1,48 @@
+// What is told of a file: that it is a plan file and how large its plan is, or why it is none.
+ghost use mathlib.Core.Path.{_≡_};
+ghost use Rattle.plan_format.specs.Reading.{read};
+ghost use Rattle.plan_report.specs.Report.{numbers-text, refusal-text, report-text};
+ghost use Rattle.std.specs.Of.String.{string-bytes};
+ghost use Rattle.std.specs.Vec.{made};
+use plan_reader::Numbers;
+use plan_reader::check;
+use refusal::Refusal;
+use std::alloc::AllocError;
+use std::alloc::Global;
+
+// The lines for a plan file.
+fn tell_numbers(heap: Global, numbers: Numbers) -> Result<String, AllocError>
+    ensures { λ r. ⌜ made r (λ text. string-bytes text ≡ numbers-text numbers) ⌝ }
+{
+    let settings = numbers.settings;
+    let tables = numbers.tables;
+    let rows = numbers.rows;
+    let values = numbers.values;
+    let cells = numbers.cells;
+    format!(
+        heap,
+        "a plan file\nsettings: {settings}\ntables: {tables}\nrows: {rows}\nvalues: {values}\ncells to reserve: {cells}\n"
+    )
+}
+
+// The lines for a refusal.
+fn tell_refusal(heap: Global, refusal: Refusal) -> Result<String, AllocError>
+    ensures { λ r. ⌜ made r (λ text. string-bytes text ≡ refusal-text refusal) ⌝ }
+{
+    let number = refusal.number();
+    let words = refusal.words();
+    match refusal.place() {
+        Some(place) => format!(heap, "no plan file\nrefusal: {number}\nbit place: {place}\n{words}\n"),
+        None => format!(heap, "no plan file\nrefusal: {number}\n{words}\n"),
+    }
+}
+
+// The lines that tell what a file is.
+pub fn report(heap: Global, file: &[u8]) -> Result<String, AllocError>
+    ensures { λ r. ⌜ made r (λ text. string-bytes text ≡ report-text (read (now (file .entry)))) ⌝ }
+{
+    match check(file) {
+        Ok(numbers) => tell_numbers(heap, numbers),
+        Err(refusal) => tell_refusal(heap, refusal),
+    }
+}
