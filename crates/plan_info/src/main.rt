@@ -1,4 +1,4 @@
-// Tells what the file plan.bin in the current folder is. All that it prints is the text of
+// Tells what the file plan.bin in the current folder is. What it prints is the text of
 // `plan_report::report`, which is proved; reading the file and printing are only tested.
 use plan_report::report;
 use std::fs::File;
@@ -6,7 +6,7 @@ use std::io;
 use std::io::ErrorKind;
 use std::io::Read;
 
-// No more of the file is read. A plan file is shorter.
+// No more of the file is read. A plan file is shorter, so a longer file is none.
 const MOST: u64 = 65_536;
 
 // The first bytes of plan.bin; none where there is no such file.
@@ -25,7 +25,11 @@ fn read_plan(rt: &LibcRuntime) -> io::Result<Vec<u8>> {
     Ok(bytes)
 }
 
-fn main(rt: LibcRuntime) -> io::Result<()> {
-    let file = read_plan(&rt)?;
+fn run(rt: &LibcRuntime) -> io::Result<()> {
+    let file = read_plan(rt)?;
     rt.print(report(rt.alloc(), file.as_slice())?)
+}
+
+fn main(rt: LibcRuntime) -> io::Result<()> {
+    rt.report(run(&rt))
 }

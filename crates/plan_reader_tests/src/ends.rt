@@ -11,16 +11,6 @@ use std::alloc::AllocError;
 use std::alloc::Global;
 use std::test::*;
 
-// As many tables as settings, each on one setting and without rows.
-fn singles(heap: Global, settings: u16, values: u16, tables: u16) -> Result<Answer, AllocError> {
-    let mut bits = FileBits::new(heap);
-    bits.header(settings, values, tables)?;
-    for setting in 0..tables {
-        bits.table(&[setting], 0)?;
-    }
-    bits.checked()
-}
-
 #[test]
 fn edition(rt: LibcRuntime) -> Result<(), Fail> {
     for edition in [0, 2, 255] {
@@ -31,21 +21,31 @@ fn edition(rt: LibcRuntime) -> Result<(), Fail> {
     Ok(())
 }
 
-#[test]
-fn value_counts(rt: LibcRuntime) -> Result<(), Fail> {
-    let heap = rt.alloc();
-    check_eq(singles(heap, 1, 0, 1)?, Err(Refusal::OutOfRange(14)))?;
-    check_eq(singles(heap, 1, 1, 1)?, accepted(1, 1, 0, 1, 0))?;
-    check_eq(singles(heap, 2, 32, 2)?, accepted(2, 2, 0, 64, 0))?;
-    check_eq(singles(heap, 1, 33, 1)?, Err(Refusal::OutOfRange(14)))
+// As many tables, each on one setting and without rows.
+fn singles(heap: Global, settings: u16, values: u16, tables: u16) -> Result<Answer, AllocError> {
+    let mut bits = FileBits::new(heap);
+    bits.header(settings, values, tables)?;
+    for setting in 0..tables {
+        bits.table(&[setting], 0)?;
+    }
+    bits.checked()
 }
 
 #[test]
-fn table_counts(rt: LibcRuntime) -> Result<(), Fail> {
-    let heap = rt.alloc();
-    check_eq(singles(heap, 1, 1, 0)?, Err(Refusal::OutOfRange(20)))?;
-    check_eq(singles(heap, 16, 2, 16)?, accepted(16, 16, 0, 32, 0))?;
-    check_eq(singles(heap, 17, 2, 17)?, Err(Refusal::OutOfRange(116)))
+fn settings_values_and_tables(rt: LibcRuntime) -> Result<(), Fail> {
+    for (settings, values, tables, expected) in [
+        (0, 1, 1, Err(Refusal::OutOfRange(8))),
+        (1, 0, 1, Err(Refusal::OutOfRange(14))),
+        (1, 1, 0, Err(Refusal::OutOfRange(20))),
+        (1, 1, 1, accepted(1, 1, 0, 1, 0)),
+        (2, 32, 2, accepted(2, 2, 0, 64, 0)),
+        (1, 33, 1, Err(Refusal::OutOfRange(14))),
+        (16, 2, 16, accepted(16, 16, 0, 32, 0)),
+        (17, 2, 17, Err(Refusal::OutOfRange(116))),
+    ] {
+        check_eq(singles(rt.alloc(), settings, values, tables)?, expected)?;
+    }
+    Ok(())
 }
 
 // Four tables on eight settings each, with one row.
@@ -65,9 +65,8 @@ fn eights(heap: Global, settings: u16) -> Result<Answer, AllocError> {
 }
 
 #[test]
-fn setting_counts(rt: LibcRuntime) -> Result<(), Fail> {
+fn most_settings(rt: LibcRuntime) -> Result<(), Fail> {
     let heap = rt.alloc();
-    check_eq(singles(heap, 0, 1, 1)?, Err(Refusal::OutOfRange(8)))?;
     check_eq(eights(heap, 32)?, accepted(32, 4, 4, 32, 32))?;
     check_eq(eights(heap, 33)?, Err(Refusal::OutOfRange(8)))
 }
@@ -94,13 +93,17 @@ fn one_row(heap: Global, values: u16, setting: u16, value: u16) -> Result<Answer
 }
 
 #[test]
-fn settings_and_values(rt: LibcRuntime) -> Result<(), Fail> {
-    let heap = rt.alloc();
-    check_eq(one_row(heap, 5, 1, 0)?, Err(Refusal::OutOfRange(29)))?;
-    check_eq(one_row(heap, 5, 31, 0)?, Err(Refusal::OutOfRange(29)))?;
-    check_eq(one_row(heap, 5, 0, 4)?, accepted(1, 1, 1, 5, 8))?;
-    check_eq(one_row(heap, 5, 0, 5)?, Err(Refusal::OutOfRange(44)))?;
-    check_eq(one_row(heap, 32, 0, 31)?, accepted(1, 1, 1, 32, 8))
+fn setting_numbers_and_values(rt: LibcRuntime) -> Result<(), Fail> {
+    for (values, setting, value, expected) in [
+        (5, 1, 0, Err(Refusal::OutOfRange(29))),
+        (5, 31, 0, Err(Refusal::OutOfRange(29))),
+        (5, 0, 4, accepted(1, 1, 1, 5, 8)),
+        (5, 0, 5, Err(Refusal::OutOfRange(44))),
+        (32, 0, 31, accepted(1, 1, 1, 32, 8)),
+    ] {
+        check_eq(one_row(rt.alloc(), values, setting, value)?, expected)?;
+    }
+    Ok(())
 }
 
 // As many full tables of 512 rows, and one more table.
@@ -115,19 +118,18 @@ fn full_tables(heap: Global, full: u16, more: u16) -> Result<Answer, AllocError>
 }
 
 #[test]
-fn row_counts(rt: LibcRuntime) -> Result<(), Fail> {
-    let heap = rt.alloc();
-    check_eq(full_tables(heap, 0, 0)?, accepted(2, 1, 0, 64, 0))?;
-    check_eq(full_tables(heap, 0, 512)?, accepted(2, 1, 512, 64, 4096))?;
-    check_eq(full_tables(heap, 0, 513)?, Err(Refusal::OutOfRange(45)))?;
-    check_eq(full_tables(heap, 0, 1023)?, Err(Refusal::OutOfRange(45)))
-}
-
-#[test]
-fn rows_of_a_plan(rt: LibcRuntime) -> Result<(), Fail> {
-    let heap = rt.alloc();
-    check_eq(full_tables(heap, 7, 512)?, accepted(2, 8, 4096, 64, 32768))?;
-    check_eq(full_tables(heap, 8, 0)?, accepted(2, 9, 4096, 64, 32768))?;
-    check_eq(full_tables(heap, 8, 1)?, Err(Refusal::TooManyRows(41197)))?;
-    check_eq(full_tables(heap, 8, 512)?, Err(Refusal::TooManyRows(41197)))
+fn rows(rt: LibcRuntime) -> Result<(), Fail> {
+    for (full, more, expected) in [
+        (0, 0, accepted(2, 1, 0, 64, 0)),
+        (0, 512, accepted(2, 1, 512, 64, 4096)),
+        (0, 513, Err(Refusal::OutOfRange(45))),
+        (0, 1023, Err(Refusal::OutOfRange(45))),
+        (7, 512, accepted(2, 8, 4096, 64, 32768)),
+        (8, 0, accepted(2, 9, 4096, 64, 32768)),
+        (8, 1, Err(Refusal::TooManyRows(41197))),
+        (8, 512, Err(Refusal::TooManyRows(41197))),
+    ] {
+        check_eq(full_tables(rt.alloc(), full, more)?, expected)?;
+    }
+    Ok(())
 }

@@ -15,7 +15,27 @@ use std::test::*;
 
 // The number in which P ends when it is cut to so many bytes.
 const CUTS: [u32; 21] = [
-    0, 8, 14, 20, 32, 37, 46, 51, 61, 71, 76, 86, 95, 100, 110, 120, 125, 135, 140, 150, 160,
+    0,
+    8,
+    14,
+    20,
+    32,
+    37,
+    46,
+    51,
+    61,
+    71,
+    76,
+    86,
+    95,
+    100,
+    110,
+    120,
+    125,
+    135,
+    140,
+    150,
+    160,
 ];
 
 #[test]
@@ -41,7 +61,7 @@ fn not_padded(rt: LibcRuntime) -> Result<(), Fail> {
     check_eq(check_file(longer.as_slice()), Err(Refusal::NotPadded(165)))
 }
 
-// A file whose bits fill its bytes: one setting, one table, and as many rows as make 64 bits.
+// A file whose bits fill its bytes, 64 of them, and then more bytes.
 fn whole_bytes(heap: Global, after: &[u16]) -> Result<Answer, AllocError> {
     let mut bits = FileBits::new(heap);
     bits.header(1, 32, 1)?;
@@ -55,14 +75,18 @@ fn whole_bytes(heap: Global, after: &[u16]) -> Result<Answer, AllocError> {
 
 #[test]
 fn byte_after_whole_bytes(rt: LibcRuntime) -> Result<(), Fail> {
-    let heap = rt.alloc();
-    check_eq(whole_bytes(heap, &[])?, accepted(1, 1, 4, 32, 32))?;
-    check_eq(whole_bytes(heap, &[0])?, Err(Refusal::NotPadded(64)))?;
-    check_eq(whole_bytes(heap, &[0x80])?, Err(Refusal::NotPadded(64)))
+    check_eq(whole_bytes(rt.alloc(), &[])?, accepted(1, 1, 4, 32, 32))?;
+    for byte in [0, 0x80] {
+        check_eq(
+            whole_bytes(rt.alloc(), &[byte])?,
+            Err(Refusal::NotPadded(64)),
+        )?;
+    }
+    Ok(())
 }
 
-// One table on three settings of three values each.
-fn rows_of_three(heap: Global, scope: &[u16], rows: &[[u16; 3]]) -> Result<Answer, AllocError> {
+// One table on settings of three values each, with rows for three of them.
+fn table_of_three(heap: Global, scope: &[u16], rows: &[[u16; 3]]) -> Result<Answer, AllocError> {
     let mut bits = FileBits::new(heap);
     bits.header(3, 3, 1)?;
     bits.table(scope, (rows.len() & 511) as u16)?;
@@ -73,33 +97,52 @@ fn rows_of_three(heap: Global, scope: &[u16], rows: &[[u16; 3]]) -> Result<Answe
 }
 
 #[test]
-fn scope_not_ascending(rt: LibcRuntime) -> Result<(), Fail> {
-    let heap = rt.alloc();
-    check_eq(rows_of_three(heap, &[0, 1, 2], &[])?, accepted(3, 1, 0, 9, 0))?;
-    check_eq(rows_of_three(heap, &[0, 1, 1], &[])?, Err(Refusal::NotAscending(51)))?;
-    check_eq(rows_of_three(heap, &[0, 2, 1], &[])?, Err(Refusal::NotAscending(51)))?;
-    check_eq(rows_of_three(heap, &[1, 0, 2], &[])?, Err(Refusal::NotAscending(46)))?;
-    check_eq(rows_of_three(heap, &[0, 0, 2], &[])?, Err(Refusal::NotAscending(46)))
+fn scopes(rt: LibcRuntime) -> Result<(), Fail> {
+    for (scope, expected) in [
+        ([0, 1, 2], accepted(3, 1, 0, 9, 0)),
+        ([0, 1, 1], Err(Refusal::NotAscending(51))),
+        ([0, 2, 1], Err(Refusal::NotAscending(51))),
+        ([1, 0, 2], Err(Refusal::NotAscending(46))),
+        ([0, 0, 2], Err(Refusal::NotAscending(46))),
+    ] {
+        check_eq(table_of_three(rt.alloc(), &scope, &[])?, expected)?;
+    }
+    Ok(())
 }
 
 #[test]
-fn rows_not_ascending(rt: LibcRuntime) -> Result<(), Fail> {
-    let heap = rt.alloc();
-    let scope = [0, 1, 2];
-    let up = [[0, 0, 0], [0, 0, 1], [0, 1, 0], [1, 0, 0]];
-    check_eq(rows_of_three(heap, &scope, &up)?, accepted(3, 1, 4, 9, 32))?;
-    let same = [[0, 2, 1], [0, 2, 1]];
-    check_eq(rows_of_three(heap, &scope, &same)?, Err(Refusal::NotAscending(81)))?;
-    let down_first = [[1, 0, 0], [0, 2, 2]];
-    check_eq(rows_of_three(heap, &scope, &down_first)?, Err(Refusal::NotAscending(81)))?;
-    let down_last = [[0, 0, 0], [0, 1, 2], [0, 1, 1]];
-    check_eq(rows_of_three(heap, &scope, &down_last)?, Err(Refusal::NotAscending(96)))
+fn rows(rt: LibcRuntime) -> Result<(), Fail> {
+    for (rows, expected) in [
+        ([[0, 0, 0], [0, 1, 0], [1, 0, 0]], accepted(3, 1, 3, 9, 24)),
+        (
+            [[0, 2, 1], [0, 2, 1], [1, 0, 0]],
+            Err(Refusal::NotAscending(81)),
+        ),
+        (
+            [[1, 0, 0], [0, 2, 2], [1, 0, 0]],
+            Err(Refusal::NotAscending(81)),
+        ),
+        (
+            [[0, 0, 0], [0, 1, 2], [0, 1, 1]],
+            Err(Refusal::NotAscending(96)),
+        ),
+        (
+            [[0, 0, 2], [0, 1, 1], [0, 1, 1]],
+            Err(Refusal::NotAscending(96)),
+        ),
+    ] {
+        check_eq(table_of_three(rt.alloc(), &[0, 1, 2], &rows)?, expected)?;
+    }
+    Ok(())
 }
 
 #[test]
 fn unnamed(rt: LibcRuntime) -> Result<(), Fail> {
-    let heap = rt.alloc();
-    check_eq(rows_of_three(heap, &[0, 1], &[])?, Err(Refusal::Unnamed(61)))?;
-    check_eq(rows_of_three(heap, &[1, 2], &[])?, Err(Refusal::Unnamed(61)))?;
-    check_eq(rows_of_three(heap, &[1], &[])?, Err(Refusal::Unnamed(56)))
+    for scope in [[0, 1], [0, 2], [1, 2]] {
+        check_eq(
+            table_of_three(rt.alloc(), &scope, &[])?,
+            Err(Refusal::Unnamed(61)),
+        )?;
+    }
+    Ok(())
 }

@@ -13,10 +13,16 @@ use std::test::*;
 
 #[test]
 fn first_number_first() -> Result<(), Fail> {
-    check_eq(check_file(&[]), Err(Refusal::CutShort(0)))?;
-    check_eq(check_file(&[2]), Err(Refusal::OutOfRange(0)))?;
-    check_eq(check_file(&[1]), Err(Refusal::CutShort(8)))?;
-    check_eq(check_file(&[1, 0]), Err(Refusal::OutOfRange(8)))
+    for (first, second, expected) in [
+        (2, 0, Refusal::OutOfRange(0)),
+        (2, 255, Refusal::OutOfRange(0)),
+        (1, 0, Refusal::OutOfRange(8)),
+        (1, 255, Refusal::OutOfRange(8)),
+        (1, 4, Refusal::CutShort(14)),
+    ] {
+        check_eq(check_file(&[first, second]), Err(expected))?;
+    }
+    Ok(())
 }
 
 // One table on two settings of two values each, with two rows.
@@ -31,33 +37,37 @@ fn two_rows(heap: Global, first: [u16; 2], second: [u16; 2]) -> Result<Answer, A
 
 #[test]
 fn row_is_judged_after_its_values(rt: LibcRuntime) -> Result<(), Fail> {
-    let heap = rt.alloc();
-    check_eq(two_rows(heap, [1, 0], [0, 1])?, Err(Refusal::NotAscending(65)))?;
-    check_eq(two_rows(heap, [1, 0], [0, 2])?, Err(Refusal::OutOfRange(70)))?;
-    check_eq(two_rows(heap, [1, 2], [0, 0])?, Err(Refusal::OutOfRange(60)))
+    for (first, second, expected) in [
+        ([1, 0], [0, 1], Refusal::NotAscending(65)),
+        ([1, 0], [0, 2], Refusal::OutOfRange(70)),
+        ([1, 2], [0, 0], Refusal::OutOfRange(60)),
+    ] {
+        check_eq(two_rows(rt.alloc(), first, second)?, Err(expected))?;
+    }
+    Ok(())
 }
 
-// Eight full tables, and one that is not whole.
+// Eight full tables of 512 rows, and the head of one more.
+fn head_after_4096_rows(heap: Global, rows: u16) -> Result<Answer, AllocError> {
+    let mut bits = FileBits::new(heap);
+    bits.header(2, 32, 9)?;
+    for _ in 0..8 {
+        bits.pairs(512)?;
+    }
+    bits.table(&[0, 1], rows)?;
+    bits.checked()
+}
+
 #[test]
 fn row_count_is_judged_before_the_rows_so_far(rt: LibcRuntime) -> Result<(), Fail> {
-    let mut bits = FileBits::new(rt.alloc());
-    bits.header(2, 32, 9)?;
-    for _ in 0..8 {
-        bits.pairs(512)?;
+    for (rows, expected) in [
+        (2, Refusal::TooManyRows(41197)),
+        (512, Refusal::TooManyRows(41197)),
+        (513, Refusal::OutOfRange(41197)),
+    ] {
+        check_eq(head_after_4096_rows(rt.alloc(), rows)?, Err(expected))?;
     }
-    bits.table(&[0, 1], 513)?;
-    check_eq(bits.checked()?, Err(Refusal::OutOfRange(41197)))
-}
-
-#[test]
-fn rows_so_far_are_judged_before_the_rows(rt: LibcRuntime) -> Result<(), Fail> {
-    let mut bits = FileBits::new(rt.alloc());
-    bits.header(2, 32, 9)?;
-    for _ in 0..8 {
-        bits.pairs(512)?;
-    }
-    bits.table(&[0, 1], 2)?;
-    check_eq(bits.checked()?, Err(Refusal::TooManyRows(41197)))
+    Ok(())
 }
 
 #[test]

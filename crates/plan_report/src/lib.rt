@@ -32,7 +32,10 @@ fn tell_refusal(heap: Global, refusal: Refusal) -> Result<String, AllocError>
     let number = refusal.number();
     let words = refusal.words();
     match refusal.place() {
-        Some(place) => format!(heap, "no plan file\nrefusal: {number}\nbit place: {place}\n{words}\n"),
+        Some(place) => format!(
+            heap,
+            "no plan file\nrefusal: {number}\nbit place: {place}\n{words}\n"
+        ),
         None => format!(heap, "no plan file\nrefusal: {number}\n{words}\n"),
     }
 }
@@ -44,5 +47,45 @@ pub fn report(heap: Global, file: &[u8]) -> Result<String, AllocError>
     match check(file) {
         Ok(numbers) => tell_numbers(heap, numbers),
         Err(refusal) => tell_refusal(heap, refusal),
+    }
+}
+
+#[cfg(test)]
+mod tests {
+    use super::*;
+    use std::test::*;
+
+    fn told(heap: Global, file: &[u8], text: &str) -> Result<(), Fail> {
+        let report = report(heap, file)?;
+        check_eq(report.as_str(), text)
+    }
+
+    // One setting with one value, and one table on it without rows.
+    #[test]
+    fn tells_the_numbers(rt: LibcRuntime) -> Result<(), Fail> {
+        told(
+            rt.alloc(),
+            &[0x01, 0x04, 0x10, 0x88, 0x00, 0x00],
+            "a plan file\nsettings: 1\ntables: 1\nrows: 0\nvalues: 1\ncells to reserve: 0\n",
+        )
+    }
+
+    #[test]
+    fn tells_of_an_empty_file(rt: LibcRuntime) -> Result<(), Fail> {
+        told(
+            rt.alloc(),
+            &[],
+            "no plan file\nrefusal: 1\nbit place: 0\nthe file ends inside the number that begins here\n",
+        )
+    }
+
+    // The same plan file with a bit of its padding set.
+    #[test]
+    fn tells_of_a_damaged_file(rt: LibcRuntime) -> Result<(), Fail> {
+        told(
+            rt.alloc(),
+            &[0x01, 0x04, 0x10, 0x88, 0x00, 0x01],
+            "no plan file\nrefusal: 6\nbit place: 44\nthe tables end here, and something else follows than zero bits up to the end of the byte\n",
+        )
     }
 }
