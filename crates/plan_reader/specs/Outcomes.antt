@@ -1,10 +1,18 @@
 -- What a reading function of the code answers, as a reading of the format.
+use mathlib.Core.List.{List}
 use mathlib.Core.Path.{_≡_}
 use Prim.Native.Nat.{ℕ}
+use denote.Ref.{now}
 use Rattle.std.specs.declared.result.Result.{Result}
 use Rattle.std.specs.declared.result.Result.the-variants.{Ok, Err}
 use Rattle.refusal.specs.declared.reason.Refusal.{Refusal}
+use Rattle.plan_format.specs.Bits.{bits}
 use Rattle.plan_format.specs.Reading.{Read, got, refused}
+use Rattle.plan_reader.specs.declared.reader.Reader.{Reader}
+
+-- the bits of the file that is read
+abbrev pub file-bits : Reader → List ℕ
+file-bits r = bits (now (r .file))
 
 -- the answer r, where Ok a stands for what f makes of a, and q is the place after it
 abbrev pub outcome-as : {A B : Type 0} → (A → B) → Result A Refusal → ℕ → Read B

@@ -3,10 +3,9 @@ ghost use mathlib.Core.List.{List};
 ghost use mathlib.Core.Path.{_≡_};
 ghost use Prim.Native.Nat.{ℕ, _^_, _<_, _≤_};
 ghost use Rattle.model.specs.Tests.{below as belowOf};
-ghost use Rattle.plan_format.specs.Bits.{bits};
 ghost use Rattle.plan_format.specs.Reading.{repeat, row as rowOf, value as valueOf};
 ghost use Rattle.plan_reader.specs.Lists.{above, Last, listed};
-ghost use Rattle.plan_reader.specs.Outcomes.{outcome-as, Reads};
+ghost use Rattle.plan_reader.specs.Outcomes.{file-bits, outcome-as, Reads};
 use crate::reader::Reader;
 use crate::short_list::ShortList;
 use refusal::Refusal;
@@ -40,7 +39,7 @@ impl Reader<'_> {
     // A value for each setting of the scope, below its value count.
     fn values(&mut self, counts: &ShortList, scope: &ShortList) -> Result<ShortList, Refusal>
         requires { ⌜ now self .place < 2 ^ 30 ⌝ }
-        ensures reads { λ r. ⌜ outcome-as listed r (now (self .exit) .place) ≡ repeat (valueOf (bits (now (now (self .entry) .file))) (listed (now (counts .entry))) (listed (now (scope .entry)))) (length (listed (now (scope .entry)))) (now (self .entry) .place) ⌝ }
+        ensures reads { λ r. ⌜ outcome-as listed r (now (self .exit) .place) ≡ repeat (valueOf (file-bits (now (self .entry))) (listed (now (counts .entry))) (listed (now (scope .entry)))) (length (listed (now (scope .entry)))) (now (self .entry) .place) ⌝ }
         ensures same { λ _. ⌜ now (now (self .exit) .file) ≡ now (now (self .entry) .file) ⌝ }
     {
         let mut values = ShortList::new();
@@ -60,7 +59,7 @@ impl Reader<'_> {
         last: &Option<ShortList>,
     ) -> Result<ShortList, Refusal>
         requires { ⌜ now self .place < 2 ^ 30 ⌝ }
-        ensures reads { λ r. ⌜ ((before : List (List ℕ)) → Last before (now (last .entry)) → outcome-as listed r (now (self .exit) .place) ≡ rowOf (bits (now (now (self .entry) .file))) (listed (now (counts .entry))) (listed (now (scope .entry))) before (now (self .entry) .place)) ⌝ }
+        ensures reads { λ r. ⌜ ((before : List (List ℕ)) → Last before (now (last .entry)) → outcome-as listed r (now (self .exit) .place) ≡ rowOf (file-bits (now (self .entry))) (listed (now (counts .entry))) (listed (now (scope .entry))) before (now (self .entry) .place)) ⌝ }
         ensures same { λ _. ⌜ now (now (self .exit) .file) ≡ now (now (self .entry) .file) ⌝ }
     {
         let place = self.place;
@@ -79,7 +78,7 @@ impl Reader<'_> {
         count: u16,
     ) -> Result<(), Refusal>
         requires { ⌜ count ≤ 512 ⌝ ∗ ⌜ now self .place < 2 ^ 29 ⌝ }
-        ensures reads { λ r. ⌜ Reads r (repeat (rowOf (bits (now (now (self .entry) .file))) (listed (now (counts .entry))) (listed (now (scope .entry)))) count (now (self .entry) .place)) (λ _ rows q. now (self .exit) .place ≡ q) ⌝ }
+        ensures reads { λ r. ⌜ Reads r (repeat (rowOf (file-bits (now (self .entry))) (listed (now (counts .entry))) (listed (now (scope .entry)))) count (now (self .entry) .place)) (λ _ rows q. now (self .exit) .place ≡ q) ⌝ }
         ensures same { λ _. ⌜ now (now (self .exit) .file) ≡ now (now (self .entry) .file) ⌝ }
     {
         let mut last = None;
