@@ -16,11 +16,11 @@ use Rattle.std.proofs.shelf.Tests.{cases-lt, leb-true, le-leb, ltb-true, lt-ltb
 use Rattle.refusal.specs.declared.reason.Refusal.{Refusal}
 use Rattle.refusal.specs.declared.reason.Refusal.the-variants.{OutOfRange}
 use Rattle.plan_format.specs.Bits.{spell, bits, number-at}
-use Rattle.plan_format.specs.Reading.{Read, got, refused, then, given, repeat, number, ranged, number-below}
+use Rattle.plan_format.specs.Reading.{Read, got, refused, _then_, given, repeat, number, ranged, number-below}
 use Rattle.plan_format.proofs.BitLaws.{number-at-below, number-got, number-short, bits-below, length-spell}
 
 -- what a reading in parts read
-pub then-got : {A B : Type 0} (r : Read A) (k : A → ℕ → Read B) (y : B) (q : ℕ) → then r k ≡ got y q → (x : A) × (m : ℕ) × (r ≡ got x m) × (k x m ≡ got y q)
+pub then-got : {A B : Type 0} (r : Read A) (k : A → ℕ → Read B) (y : B) (q : ℕ) → (r then k) ≡ got y q → (x : A) × (m : ℕ) × (r ≡ got x m) × (k x m ≡ got y q)
 then-got (got x m) k y q e = (x, m, refl, e)
 then-got (refused x) k y q e = let z : _≡_ {A = ℕ} 0 1 = cc in let f : ⊥ = omega arith in absurd f
 
@@ -126,17 +126,17 @@ exact-as b read good same spelt words x p a q =
 
 -- a reading with a test of what was read
 pub tested-exact : {A : Type 0} (b : List ℕ) (read : ℕ → Read A) (good : A → Type 0) (spelt : A → List ℕ) (test : A → Bool) (why : ℕ → Refusal)
-    → Exact b read good spelt → Exact b (λ p. then (read p) (λ a q. given (test a) (why p) (got a q))) (λ a. good a × (test a ≡ true)) spelt
+    → Exact b read good spelt → Exact b (λ p. _then_ (read p) (λ a q. given (test a) (why p) (got a q))) (λ a. good a × (test a ≡ true)) spelt
 tested-exact {A} b read good spelt test why x p a q = (reads, stands)
   where
-    reads : then (read p) (λ a q. given (test a) (why p) (got a q)) ≡ got a q → (good a × (test a ≡ true)) × Stands b p (spelt a) q
+    reads : _then_ (read p) (λ a q. given (test a) (why p) (got a q)) ≡ got a q → (good a × (test a ≡ true)) × Stands b p (spelt a) q
     reads e =
         let t = then-got (read p) (λ (a : A) (q : ℕ). given (test a) (why p) (got a q)) a q e in
         let g = given-got (test (t .0)) (why p) (got (t .0) (t .1)) a q (t .3) in
         let i = x p a q .0 (t .2 ∙ g .1) in
         ((i .0, subst (λ (y : A). test y ≡ true) (got-is (t .0) a (t .1) q (g .1)) (g .0)), i .1)
 
-    stands : (good a × (test a ≡ true)) × Stands b p (spelt a) q → then (read p) (λ a q. given (test a) (why p) (got a q)) ≡ got a q
+    stands : (good a × (test a ≡ true)) × Stands b p (spelt a) q → _then_ (read p) (λ a q. given (test a) (why p) (got a q)) ≡ got a q
     stands h =
         let r : read p ≡ got a q = x p a q .1 (h .0 .0, h .1) in
         let t : test a ≡ true = h .0 .1 in
@@ -154,10 +154,10 @@ given-exact b read good spelt test why x p a q = (
 pub then-exact : {A C : Type 0} (b : List ℕ) (first : ℕ → Read A) (rest : ℕ → A → ℕ → Read C) (good : A → Type 0) (goods : A → C → Type 0)
     (spelt : A → List ℕ) (spelts : C → List ℕ) (part : C → A)
     → Exact b first good spelt → ((p : ℕ) (a : A) → good a → Exact b (rest p a) (goods a) spelts) → ((a : A) (c : C) → good a → goods a c → a ≡ part c)
-    → Exact b (λ p. then (first p) (rest p)) (λ c. good (part c) × goods (part c) c) (λ c. spelt (part c) ++ spelts c)
+    → Exact b (λ p. _then_ (first p) (rest p)) (λ c. good (part c) × goods (part c) c) (λ c. spelt (part c) ++ spelts c)
 then-exact {A} {C} b first rest good goods spelt spelts part x y found p c q = (reads, stands)
   where
-    reads : then (first p) (rest p) ≡ got c q → (good (part c) × goods (part c) c) × Stands b p (spelt (part c) ++ spelts c) q
+    reads : _then_ (first p) (rest p) ≡ got c q → (good (part c) × goods (part c) c) × Stands b p (spelt (part c) ++ spelts c) q
     reads e =
         let t = then-got (first p) (rest p) c q e in
         let i = x p (t .0) (t .1) .0 (t .2) in
@@ -165,7 +165,7 @@ then-exact {A} {C} b first rest good goods spelt spelts part x y found p c q = (
         subst (λ (a : A). (good a × goods a c) × Stands b p (spelt a ++ spelts c) q) (found (t .0) c (i .0) (j .0))
         ((i .0, j .0), stands-join b p (spelt (t .0)) (spelts c) (t .1) q (i .1) (j .1))
 
-    stands : (good (part c) × goods (part c) c) × Stands b p (spelt (part c) ++ spelts c) q → then (first p) (rest p) ≡ got c q
+    stands : (good (part c) × goods (part c) c) × Stands b p (spelt (part c) ++ spelts c) q → _then_ (first p) (rest p) ≡ got c q
     stands h =
         let s = stands-split b p (spelt (part c)) (spelts c) q (h .1) in
         let i : first p ≡ got (part c) (s .0) = x p (part c) (s .0) .1 (h .0 .0, s .1) in
@@ -175,10 +175,10 @@ then-exact {A} {C} b first rest good goods spelt spelts part x y found p c q = (
 -- a reading, made into something that has what was read as a part
 pub made-exact : {A C : Type 0} (b : List ℕ) (read : ℕ → Read A) (good : A → Type 0) (spelt : A → List ℕ) (make : A → C) (part : C → A) (fits : C → Type 0)
     → ((a : A) → (part (make a) ≡ a) × fits (make a)) → ((c : C) → fits c → make (part c) ≡ c) → Exact b read good spelt
-    → Exact b (λ p. then (read p) (λ a q. got (make a) q)) (λ c. fits c × good (part c)) (λ c. spelt (part c))
+    → Exact b (λ p. _then_ (read p) (λ a q. got (make a) q)) (λ c. fits c × good (part c)) (λ c. spelt (part c))
 made-exact {A} {C} b read good spelt make part fits there back x p c q = (reads, stands)
   where
-    reads : then (read p) (λ a q. got (make a) q) ≡ got c q → (fits c × good (part c)) × Stands b p (spelt (part c)) q
+    reads : _then_ (read p) (λ a q. got (make a) q) ≡ got c q → (fits c × good (part c)) × Stands b p (spelt (part c)) q
     reads e =
         let t = then-got (read p) (λ (a : A) (q : ℕ). got (make a) q) c q e in
         let m : make (t .0) ≡ c = got-is (make (t .0)) c (t .1) q (t .3) in
@@ -188,7 +188,7 @@ made-exact {A} {C} b read good spelt make part fits there back x p c q = (reads,
         let g : t .0 ≡ part c = sym (there (t .0) .0) ∙ ap part m in
         ((subst fits m (there (t .0) .1), subst good g (i .0)), subst (λ (a : A). Stands b p (spelt a) q) g s)
 
-    stands : (fits c × good (part c)) × Stands b p (spelt (part c)) q → then (read p) (λ a q. got (make a) q) ≡ got c q
+    stands : (fits c × good (part c)) × Stands b p (spelt (part c)) q → _then_ (read p) (λ a q. got (make a) q) ≡ got c q
     stands h =
         let i : read p ≡ got (part c) q = x p (part c) q .1 (h .0 .1, h .1) in
         rw i (ap (λ (y : C). got y q) (back c (h .0 .0)))
@@ -231,7 +231,7 @@ module _ {A : Type 0} (b : List ℕ) (one : List A → ℕ → Read A) (good : L
     where
       reads : repeat one (suc n) p ≡ got xs q → Good (suc n) xs × Stands b p (joined spelt xs) q
       reads e =
-          let t = then-got (repeat one n p) (λ (ys : List A) (m : ℕ). then (one ys m) (λ (x : A) (r : ℕ). got (ys ++ x ∷ []) r)) xs q e in
+          let t = then-got (repeat one n p) (λ (ys : List A) (m : ℕ). _then_ (one ys m) (λ (x : A) (r : ℕ). got (ys ++ x ∷ []) r)) xs q e in
           let ys = t .0 in
           let m = t .1 in
           let u = then-got (one ys m) (λ (x : A) (r : ℕ). got (ys ++ x ∷ []) r) xs q (t .3) in

@@ -14,7 +14,7 @@ use Rattle.model.specs.Rules.{TableRules, Each, Fits, Below}
 use Rattle.model.specs.Tests.{below}
 use Rattle.model.proofs.Deciding.{less-decides, below-decides}
 use Rattle.plan_format.specs.Bits.{bits, spell}
-use Rattle.plan_format.specs.Reading.{Read, got, then, repeat, may-follow, ranged, number-below, setting, value, row, table}
+use Rattle.plan_format.specs.Reading.{Read, got, _then_, repeat, may-follow, ranged, number-below, setting, value, row, table}
 use Rattle.plan_format.specs.File.{spell-row, spell-table}
 use Rattle.plan_format.proofs.Exactly.{Exact, Chain, exact-as, tested-exact, given-exact, then-exact, made-exact, repeat-exact, ranged-exact, number-below-exact}
 use Rattle.plan_format.proofs.Chains.{Above, ascending-from, ascending-to, GoodValue, values-from, values-to, fits-length, GoodTable}
@@ -76,7 +76,7 @@ module _ (counts : List ℕ) where
 
 module _ (file counts : List ℕ) (few : length counts ≤ 32) (each : Each InCount counts) where
   rows-exact : (scope : List ℕ) (n : ℕ)
-      → Exact (bits file) (λ s. then (repeat (row (bits file) counts scope) n s) (λ rows t. got (record { scope = scope; rows = rows }) t)) (Rows counts scope n) (λ t. joined spell-row (t .rows))
+      → Exact (bits file) (λ s. _then_ (repeat (row (bits file) counts scope) n s) (λ rows t. got (record { scope = scope; rows = rows }) t)) (Rows counts scope n) (λ t. joined spell-row (t .rows))
   rows-exact scope n =
       made-exact {C = Table} (bits file) (repeat (row (bits file) counts scope) n) (λ rows. (length rows ≡ n) × Chain (GoodRow counts scope) [] rows) (joined spell-row)
       (λ rows. record { scope = scope; rows = rows }) (λ t. t .rows) (λ t. t .scope ≡ scope) (λ rows. (refl, refl))

@@ -12,7 +12,7 @@ use Rattle.model.specs.Rules.{Valid, Each, TableRules}
 use Rattle.model.specs.Tests.{all-named}
 use Rattle.model.proofs.Deciding.{all-named-decides}
 use Rattle.plan_format.specs.Bits.{bits, spell}
-use Rattle.plan_format.specs.Reading.{Read, got, then, given, repeat, ranged, header, table, padded, body, read}
+use Rattle.plan_format.specs.Reading.{Read, got, _then_, given, repeat, ranged, header, table, padded, body, read}
 use Rattle.plan_format.specs.File.{spell-header, spell-table, spell-plan, FileOf}
 use Rattle.plan_format.specs.Laws.{Reads-exactly}
 use Rattle.plan_format.proofs.Exactly.{then-got, given-got, got-is, got-at, Stands, Exact, Chain, then-exact, made-exact, repeat-exact, ranged-exact, stands-end}
@@ -31,7 +31,7 @@ CountedTables counts p = ((1 ≤ length (p .tables)) × (length (p .tables) ≤ 
 
 module _ (file counts : List ℕ) (few : length counts ≤ 32) (each : Each InCount counts) where
   tables-exact : (n : ℕ)
-      → Exact (bits file) (λ q. then (repeat (table (bits file) counts) n q) (λ tables r. got (record { counts = counts; tables = tables }) r)) (Tables counts n) (λ p. joined spell-table (p .tables))
+      → Exact (bits file) (λ q. _then_ (repeat (table (bits file) counts) n q) (λ tables r. got (record { counts = counts; tables = tables }) r)) (Tables counts n) (λ p. joined spell-table (p .tables))
   tables-exact n =
       made-exact {C = Plan} (bits file) (repeat (table (bits file) counts) n) (λ tables. (length tables ≡ n) × Chain (GoodTable counts) [] tables) (joined spell-table)
       (λ tables. record { counts = counts; tables = tables }) (λ p. p .tables) (λ p. p .counts ≡ counts) (λ tables. (refl, refl))
@@ -39,7 +39,7 @@ module _ (file counts : List ℕ) (few : length counts ≤ 32) (each : Each InCo
       (repeat-exact (bits file) (table (bits file) counts) (GoodTable counts) spell-table (table-exact file counts few each) n)
 
   rest-exact : Exact (bits file)
-      (λ q. then (ranged (bits file) 5 1 16 q) (λ n r. then (repeat (table (bits file) counts) n r) (λ tables s. got (record { counts = counts; tables = tables }) s)))
+      (λ q. _then_ (ranged (bits file) 5 1 16 q) (λ n r. _then_ (repeat (table (bits file) counts) n r) (λ tables s. got (record { counts = counts; tables = tables }) s)))
       (CountedTables counts) (λ p. spell 5 (length (p .tables)) ++ joined spell-table (p .tables))
   rest-exact =
       then-exact (bits file) (ranged (bits file) 5 1 16) _ (λ n. (1 ≤ n) × (n ≤ 16)) (Tables counts) (spell 5) (λ p. joined spell-table (p .tables)) (λ p. length (p .tables))

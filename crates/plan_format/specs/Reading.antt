@@ -16,9 +16,10 @@ pub data Read (A : Type 0) : Type 0 where
   refused : Refusal → Read A
 
 -- a reading, then another that goes on from what was read and the place after it
-abbrev pub then : {A B : Type 0} → Read A → (A → ℕ → Read B) → Read B
-then (got a q) next = next a q
-then (refused e) next = refused e
+infixr 10 _then_
+abbrev pub _then_ : {A B : Type 0} → Read A → (A → ℕ → Read B) → Read B
+got a q then next = next a q
+refused e then next = refused e
 
 -- a reading, unless a test fails
 abbrev pub given : {A : Type 0} → Bool → Refusal → Read A → Read A
@@ -28,7 +29,10 @@ given false e r = refused e
 -- n readings, one after another, each told what was read before it
 abbrev pub repeat : {A : Type 0} → (List A → ℕ → Read A) → ℕ → ℕ → Read (List A)
 repeat one zero p = got [] p
-repeat one (suc n) p = then (repeat one n p) (λ xs q. then (one xs q) (λ x r. got (xs ++ x ∷ []) r))
+repeat one (suc n) p =
+    repeat one n p then λ xs q.
+    one xs q then λ x r.
+    got (xs ++ x ∷ []) r
 
 -- an item may follow those before it: it is the first, or it is above the last of them
 abbrev pub may-follow : {A : Type 0} → (A → A → Bool) → List A → A → Bool
@@ -44,22 +48,28 @@ number b w p = given (leb (p + w) (length b)) (CutShort p) (got (number-at b p w
 
 -- a number of w bits, from lo to hi
 abbrev pub ranged : List ℕ → ℕ → ℕ → ℕ → ℕ → Read ℕ
-ranged b w lo hi p = then (number b w p) (λ v q. given (leb lo v && leb v hi) (OutOfRange p) (got v q))
+ranged b w lo hi p =
+    number b w p then λ v q.
+    given (leb lo v && leb v hi) (OutOfRange p) (got v q)
 
 -- a number of 5 bits, below n
 abbrev pub number-below : List ℕ → ℕ → ℕ → Read ℕ
-number-below b n p = then (number b 5 p) (λ v q. given (ltb v n) (OutOfRange p) (got v q))
+number-below b n p =
+    number b 5 p then λ v q.
+    given (ltb v n) (OutOfRange p) (got v q)
 
 -- the edition, the setting count, each setting's value count
 abbrev pub header : List ℕ → ℕ → Read (List ℕ)
 header b p =
-    then (ranged b 8 1 1 p)
-    (λ _ q. then (ranged b 6 1 32 q)
-    (λ n r. repeat (λ _. ranged b 6 1 32) n r))
+    ranged b 8 1 1 p then λ _ q.
+    ranged b 6 1 32 q then λ n r.
+    repeat (λ _. ranged b 6 1 32) n r
 
 -- a setting number below n, above those before it in its table
 abbrev pub setting : List ℕ → ℕ → List ℕ → ℕ → Read ℕ
-setting b n before p = then (number-below b n p) (λ s q. given (may-follow ltb before s) (NotAscending p) (got s q))
+setting b n before p =
+    number-below b n p then λ s q.
+    given (may-follow ltb before s) (NotAscending p) (got s q)
 
 -- the value for the next setting of the scope, after the values before it
 abbrev pub value : List ℕ → List ℕ → List ℕ → List ℕ → ℕ → Read ℕ
@@ -68,26 +78,26 @@ value b counts scope before = number-below b (getD counts (getD scope (length be
 -- a row: a value for each setting of the scope; above the rows before it in its table
 abbrev pub row : List ℕ → List ℕ → List ℕ → List (List ℕ) → ℕ → Read (List ℕ)
 row b counts scope before p =
-    then (repeat (value b counts scope) (length scope) p)
-    (λ r q. given (may-follow below before r) (NotAscending p) (got r q))
+    repeat (value b counts scope) (length scope) p then λ r q.
+    given (may-follow below before r) (NotAscending p) (got r q)
 
--- a table: width, setting numbers, row count, rows; the tables before it have their rows too
+-- a table: width, setting numbers, row count, rows; with those of the tables before it, at most 4,096 rows
 abbrev pub table : List ℕ → List ℕ → List Table → ℕ → Read Table
 table b counts before p =
-    then (ranged b 4 1 8 p)
-    (λ w q. then (repeat (setting b (length counts)) w q)
-    (λ scope r. then (ranged b 10 0 512 r)
-    (λ n s. given (leb (rows-in before + n) 4096) (TooManyRows r)
-    (then (repeat (row b counts scope) n s)
-    (λ rows t. got (record { scope = scope; rows = rows }) t)))))
+    ranged b 4 1 8 p then λ w q.
+    repeat (setting b (length counts)) w q then λ scope r.
+    ranged b 10 0 512 r then λ n s.
+    given (leb (rows-in before + n) 4096) (TooManyRows r)
+    (repeat (row b counts scope) n s then λ rows t.
+    got (record { scope = scope; rows = rows }) t)
 
 -- a plan: header, table count, tables
 abbrev pub body : List ℕ → ℕ → Read Plan
 body b p =
-    then (header b p)
-    (λ counts q. then (ranged b 5 1 16 q)
-    (λ n r. then (repeat (table b counts) n r)
-    (λ tables s. got (record { counts = counts; tables = tables }) s)))
+    header b p then λ counts q.
+    ranged b 5 1 16 q then λ n r.
+    repeat (table b counts) n r then λ tables s.
+    got (record { counts = counts; tables = tables }) s
 
 -- all are 0
 abbrev pub zeros : List ℕ → Bool
@@ -101,7 +111,7 @@ padded b p = ltb (length b - p) 8 && zeros (drop p b)
 -- a file: a plan in which every setting is named, and nothing after it but padding
 abbrev pub read : List ℕ → Read Plan
 read file =
-    then (body (bits file) 0)
-    (λ p q. given (all-named (length (p .counts)) (p .tables)) (Unnamed q)
+    body (bits file) 0 then λ p q.
+    given (all-named (length (p .counts)) (p .tables)) (Unnamed q)
     (given (padded (bits file) q) (NotPadded q)
-    (got p q)))
+    (got p q))

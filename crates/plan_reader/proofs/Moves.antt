@@ -13,7 +13,7 @@ use Rattle.refusal.specs.declared.reason.Refusal.the-variants.{CutShort, OutOfR
 use Rattle.model.specs.Plan.{Table, rows-in}
 use Rattle.model.specs.Tests.{below}
 use Rattle.plan_format.specs.Bits.{number-at}
-use Rattle.plan_format.specs.Reading.{Read, got, then, given, repeat, may-follow, number, ranged, number-below, header, setting, value, row, table, body}
+use Rattle.plan_format.specs.Reading.{Read, got, _then_, given, repeat, may-follow, number, ranged, number-below, header, setting, value, row, table, body}
 use Rattle.plan_format.proofs.Exactly.{then-got, given-got, got-at, got-is}
 use Rattle.plan_reader.proofs.RepeatLaws.{repeat-length}
 
@@ -26,7 +26,7 @@ number-moves b w p a q e =
     omega (arith, got-at (number-at b p w) a (p + w) q (g .1))
 
 then-moves : {A B : Type 0} (first : ℕ → Read A) (rest : ℕ → A → ℕ → Read B) (v w : ℕ)
-    → Moves first v → ((p : ℕ) (a : A) → Moves (rest p a) w) → Moves (λ p. then (first p) (rest p)) (v + w)
+    → Moves first v → ((p : ℕ) (a : A) → Moves (rest p a) w) → Moves (λ p. _then_ (first p) (rest p)) (v + w)
 then-moves first rest v w x y p a q e =
     let t = then-got (first p) (rest p) a q e in
     let i = x p (t .0) (t .1) (t .2) in
@@ -38,7 +38,7 @@ given-moves test why read w x p a q e = x p a q (given-got test why (read p) a q
 
 -- a test of what was read takes no bit
 tested-moves : {A : Type 0} (read : ℕ → Read A) (test : A → Bool) (why : ℕ → Refusal) (w : ℕ)
-    → Moves read w → Moves (λ p. then (read p) (λ a q. given (test a) (why p) (got a q))) w
+    → Moves read w → Moves (λ p. _then_ (read p) (λ a q. given (test a) (why p) (got a q))) w
 tested-moves {A} read test why w x p a q e =
     let t = then-got (read p) (λ (a : A) (q : ℕ). given (test a) (why p) (got a q)) a q e in
     let g = given-got (test (t .0)) (why p) (got (t .0) (t .1)) a q (t .3) in
@@ -47,7 +47,7 @@ tested-moves {A} read test why w x p a q e =
 repeat-moves : {A : Type 0} (one : List A → ℕ → Read A) (w : ℕ) → ((xs : List A) → Moves (one xs) w) → (n : ℕ) → Moves (repeat one n) (w * n)
 repeat-moves one w x zero p a q e = omega (arith, got-at [] a p q e)
 repeat-moves {A} one w x (suc n) p a q e =
-    let t = then-got (repeat one n p) (λ (xs : List A) (q : ℕ). then (one xs q) (λ (x : A) (r : ℕ). got (xs ++ x ∷ []) r)) a q e in
+    let t = then-got (repeat one n p) (λ (xs : List A) (q : ℕ). _then_ (one xs q) (λ (x : A) (r : ℕ). got (xs ++ x ∷ []) r)) a q e in
     let u = then-got (one (t .0) (t .1)) (λ (x : A) (r : ℕ). got (t .0 ++ x ∷ []) r) a q (t .3) in
     let i = repeat-moves one w x n p (t .0) (t .1) (t .2) in
     let j = x (t .0) (t .1) (u .0) (u .1) (u .2) in

@@ -9,7 +9,7 @@ use lib.ListN.{length}
 use Rattle.std.proofs.shelf.Lists.{length-push}
 use Rattle.std.proofs.shelf.Tests.{cases-lt}
 use Rattle.refusal.specs.declared.reason.Refusal.{Refusal}
-use Rattle.plan_format.specs.Reading.{Read, got, refused, then, repeat}
+use Rattle.plan_format.specs.Reading.{Read, got, refused, _then_, repeat}
 use Rattle.plan_format.proofs.Exactly.{then-got, got-is}
 
 module _ {A : Type 0} (one : List A → ℕ → Read A) where
@@ -24,7 +24,7 @@ module _ {A : Type 0} (one : List A → ℕ → Read A) where
   pub repeat-length : (n p : ℕ) (xs : List A) (q : ℕ) → repeat one n p ≡ got xs q → length xs ≡ n
   repeat-length zero p xs q e = ap length (sym (got-is [] xs p q e))
   repeat-length (suc n) p xs q e =
-      let t = then-got (repeat one n p) (λ (xs : List A) (q : ℕ). then (one xs q) (λ (x : A) (r : ℕ). got (xs ++ x ∷ []) r)) xs q e in
+      let t = then-got (repeat one n p) (λ (xs : List A) (q : ℕ). _then_ (one xs q) (λ (x : A) (r : ℕ). got (xs ++ x ∷ []) r)) xs q e in
       let u = then-got (one (t .0) (t .1)) (λ (x : A) (r : ℕ). got (t .0 ++ x ∷ []) r) xs q (t .3) in
       let is : t .0 ++ u .0 ∷ [] ≡ xs = got-is (t .0 ++ u .0 ∷ []) xs (u .1) q (u .3) in
       ap length (sym is) ∙ length-push (t .0) (u .0) ∙ add-one (length (t .0)) ∙ ap suc (repeat-length n p (t .0) (t .1) (t .2))
