@@ -1,4 +1,5 @@
 pub mod Checking
+pub mod Outcomes
 pub mod Lists
 pub mod Marks
-pub mod Outcomes
+pub mod Heads

@@ -23,7 +23,7 @@ outcome-as f (Err e) q = refused e
 abbrev pub outcome : {A : Type 0} → Result A Refusal → ℕ → Read A
 outcome r q = outcome-as (λ a. a) r q
 
--- the answer r of a reading of which not all is kept: what was read, and where it ended, are as `Kept` says
-abbrev pub Reads : {A B : Type 0} → Result A Refusal → Read B → (A → B → ℕ → Type 0) → Type 0
-Reads {A} {B} (Ok a) reading Kept = (x : B) × (q : ℕ) × (reading ≡ got x q) × Kept a x q
-Reads (Err e) reading Kept = reading ≡ refused e
+-- the answer r, with the place q after it, of a reading of which not all is kept: `Kept` says what is
+abbrev pub Reads : {A B : Type 0} → Result A Refusal → ℕ → Read B → (A → B → Type 0) → Type 0
+Reads {A} {B} (Ok a) q reading Kept = (x : B) × (reading ≡ got x q) × Kept a x
+Reads (Err e) q reading Kept = reading ≡ refused e

@@ -1,11 +1,8 @@
-ghost use lib.ListN.{length};
 ghost use mathlib.Core.Path.{_≡_};
 ghost use Prim.Native.Nat.{_^_, _<_};
-ghost use Rattle.model.specs.Plan.{row-count};
 ghost use Rattle.plan_format.specs.Bits.{bits};
 ghost use Rattle.plan_format.specs.Reading.{body as bodyOf, padded};
-ghost use Rattle.plan_reader.specs.Lists.{listed};
-ghost use Rattle.plan_reader.specs.Marks.{Marks};
+ghost use Rattle.plan_reader.specs.Heads.{HeadOfPlan};
 ghost use Rattle.plan_reader.specs.Outcomes.{file-bits, Reads};
 use crate::named::Named;
 use crate::reader::Reader;
@@ -26,7 +23,7 @@ impl Reader<'_> {
     // Header and tables.
     pub(crate) fn body(&mut self) -> Result<PlanHead, Refusal>
         requires { ⌜ now self .place < 2 ^ 19 ⌝ }
-        ensures reads { λ r. ⌜ Reads r (bodyOf (file-bits (now (self .entry))) (now (self .entry) .place)) (λ head p q. (now (self .exit) .place ≡ q) × (listed (head .counts) ≡ p .counts) × Marks (head .named) (p .tables) × (head .tables ≡ length (p .tables)) × (head .rows ≡ row-count p)) ⌝ }
+        ensures reads { λ r. ⌜ Reads r (now (self .exit) .place) (bodyOf (file-bits (now (self .entry))) (now (self .entry) .place)) HeadOfPlan ⌝ }
         ensures same { λ _. ⌜ now (now (self .exit) .file) ≡ now (now (self .entry) .file) ⌝ }
     {
         let counts = self.header()?;

@@ -78,7 +78,7 @@ impl Reader<'_> {
         count: u16,
     ) -> Result<(), Refusal>
         requires { ⌜ count ≤ 512 ⌝ ∗ ⌜ now self .place < 2 ^ 29 ⌝ }
-        ensures reads { λ r. ⌜ Reads r (repeat (rowOf (file-bits (now (self .entry))) (listed (now (counts .entry))) (listed (now (scope .entry)))) count (now (self .entry) .place)) (λ _ rows q. now (self .exit) .place ≡ q) ⌝ }
+        ensures reads { λ r. ⌜ Reads r (now (self .exit) .place) (repeat (rowOf (file-bits (now (self .entry))) (listed (now (counts .entry))) (listed (now (scope .entry)))) count (now (self .entry) .place)) (λ _ _. Unit {0}) ⌝ }
         ensures same { λ _. ⌜ now (now (self .exit) .file) ≡ now (now (self .entry) .file) ⌝ }
     {
         let mut last = None;

@@ -1,10 +1,10 @@
 ghost use mathlib.Core.List.{List};
 ghost use mathlib.Core.Path.{_≡_};
 ghost use Prim.Native.Nat.{ℕ, _^_, _<_, _≤_};
-ghost use Rattle.model.specs.Plan.{Table, height, rows-in};
+ghost use Rattle.model.specs.Plan.{Table, rows-in};
 ghost use Rattle.plan_format.specs.Reading.{repeat, table as tableOf};
+ghost use Rattle.plan_reader.specs.Heads.{HeadOf, HeadOfTables};
 ghost use Rattle.plan_reader.specs.Lists.{listed};
-ghost use Rattle.plan_reader.specs.Marks.{Marks};
 ghost use Rattle.plan_reader.specs.Outcomes.{file-bits, Reads};
 use crate::named::Named;
 use crate::reader::Reader;
@@ -29,7 +29,7 @@ impl Reader<'_> {
     // A table, where those before it have `earlier` rows.
     fn table(&mut self, counts: &ShortList, earlier: u16) -> Result<TableHead, Refusal>
         requires { ⌜ earlier ≤ 4096 ⌝ ∗ ⌜ now self .place < 2 ^ 28 ⌝ }
-        ensures reads { λ r. ⌜ ((before : List Table) → rows-in before ≡ earlier → Reads r (tableOf (file-bits (now (self .entry))) (listed (now (counts .entry))) before (now (self .entry) .place)) (λ head t q. (now (self .exit) .place ≡ q) × (listed (head .scope) ≡ t .scope) × (head .rows ≡ height t))) ⌝ }
+        ensures reads { λ r. ⌜ ((before : List Table) → rows-in before ≡ earlier → Reads r (now (self .exit) .place) (tableOf (file-bits (now (self .entry))) (listed (now (counts .entry))) before (now (self .entry) .place)) HeadOf) ⌝ }
         ensures same { λ _. ⌜ now (now (self .exit) .file) ≡ now (now (self .entry) .file) ⌝ }
     {
         let width = self.ranged(4, 1, 8)?;
@@ -46,7 +46,7 @@ impl Reader<'_> {
     // `count` tables.
     pub(crate) fn tables(&mut self, counts: &ShortList, count: u16) -> Result<TablesHead, Refusal>
         requires { ⌜ count ≤ 16 ⌝ ∗ ⌜ now self .place < 2 ^ 20 ⌝ }
-        ensures reads { λ r. ⌜ Reads r (repeat (tableOf (file-bits (now (self .entry))) (listed (now (counts .entry)))) count (now (self .entry) .place)) (λ head ts q. (now (self .exit) .place ≡ q) × Marks (head .named) ts × (head .rows ≡ rows-in ts)) ⌝ }
+        ensures reads { λ r. ⌜ Reads r (now (self .exit) .place) (repeat (tableOf (file-bits (now (self .entry))) (listed (now (counts .entry)))) count (now (self .entry) .place)) HeadOfTables ⌝ }
         ensures same { λ _. ⌜ now (now (self .exit) .file) ≡ now (now (self .entry) .file) ⌝ }
     {
         let mut named = Named::none();

@@ -81,15 +81,14 @@ returns c =
     let same : c .ranged .last .self .file .now ≡ file = h2 .same ∙ h1 .same in
     let e2 : got n q ≡ ranged (bits file) 5 1 16 p = h2 .reads ∙ ap (λ (f : List ℕ). ranged (bits f) 5 1 16 p) (h1 .same) in
     let ts : List Table = h3 .reads .0 in
-    let r : ℕ = h3 .reads .1 in
-    let e3 : repeat (table (bits file) counts) n q ≡ got ts r = ap (λ (f : List ℕ). repeat (table (bits f) counts) n q) (sym same) ∙ h3 .reads .2 in
-    let a = h3 .reads .3 in
+    let r = c .tables .last .self .place in
+    let e3 : repeat (table (bits file) counts) n q ≡ got ts r = ap (λ (f : List ℕ). repeat (table (bits f) counts) n q) (sym same) ∙ h3 .reads .1 in
+    let a = h3 .reads .2 in
     record {
       reads = (
         record { counts = counts; tables = ts },
-        r,
         body-got (bits file) counts (c .args .self .now .place) p (h1 .reads) n q e2 ts r e3,
-        (a .0, refl, a .1, sym (repeat-length (table (bits file) counts) n q ts r e3), a .2),
+        record { counts = refl; named = a .named; tables = sym (repeat-length (table (bits file) counts) n q ts r e3); rows = a .rows },
       );
       same = h3 .same ∙ same;
     }

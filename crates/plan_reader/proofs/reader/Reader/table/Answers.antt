@@ -51,15 +51,14 @@ returns c =
     let e2 : got scope p2 ≡ repeat (setting (bits file) n) w p1 = h2 .reads ∙ ap (λ (f : List ℕ). repeat (setting (bits f) n) w p1) (h1 .same) in
     let e3 : got k p3 ≡ ranged (bits file) 10 0 512 p2 = h3 .reads ∙ ap (λ (f : List ℕ). ranged (bits f) 10 0 512 p2) s2 in
     let rows = h4 .reads .0 in
-    let q = h4 .reads .1 in
-    let e4 : repeat (row (bits file) counts scope) k p3 ≡ got rows q = ap (λ (f : List ℕ). repeat (row (bits f) counts scope) k p3) (sym s3) ∙ h4 .reads .2 in
+    let q = c .rows .last .self .place in
+    let e4 : repeat (row (bits file) counts scope) k p3 ≡ got rows q = ap (λ (f : List ℕ). repeat (row (bits f) counts scope) k p3) (sym s3) ∙ h4 .reads .1 in
     let tall : k ≡ length rows = sym (repeat-length (row (bits file) counts scope) k p3 rows q e4) in
     record {
       reads = λ before i. (
         record { scope = scope; rows = rows },
-        q,
         table-got (bits file) counts scope before rows (c .args .self .now .place) w p1 n p2 k p3 q (c .args .earlier) i (c .len .ensures) (omega arith) (h1 .reads) e2 e3 e4,
-        (h4 .reads .3, refl, tall),
+        record { scope = refl; rows = tall },
       );
       same = h4 .same ∙ s3;
     }

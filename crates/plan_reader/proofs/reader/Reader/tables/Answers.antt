@@ -48,8 +48,8 @@ pub add-rows : need.add-rows
 add-rows c =
     let i = c .loop .inv in
     let r = c .in-Continue-table .ensures tt .reads (i .0 .0) (sym (i .0 .3)) in
-    let few = table-few (bits (c .loop .self .file .now)) (listed (c .args .counts .now)) (i .0 .0) (c .loop .self .place) (r .0) (r .1) (r .2) in
-    omega (arith, few, i .0 .3, r .3 .2)
+    let few = table-few (bits (c .loop .self .file .now)) (listed (c .args .counts .now)) (i .0 .0) (c .loop .self .place) (r .0) (c .table .last .self .place) (r .1) in
+    omega (arith, few, i .0 .3, r .2 .rows)
 
 pub loop-again : need.loop-again
 loop-again c =
@@ -59,15 +59,15 @@ loop-again c =
     let r = h .reads ts (sym (i .0 .3)) in
     let t = r .0 in
     let q = c .table .last .self .place in
-    let few = table-few (bits (c .loop .self .file .now)) (listed (c .args .counts .now)) ts (c .loop .self .place) t (r .1) (r .2) in
-    let e : got t q ≡ one (listed (c .args .counts .now)) (c .loop .self .file .now) ts (c .loop .self .place) = ap (λ k. got t k) (r .3 .0) ∙ sym (r .2) in (
+    let few = table-few (bits (c .loop .self .file .now)) (listed (c .args .counts .now)) ts (c .loop .self .place) t q (r .1) in
+    let e : got t q ≡ one (listed (c .args .counts .now)) (c .loop .self .file .now) ts (c .loop .self .place) = sym (r .1) in (
       (
         ts ++ t ∷ [],
         repeat-more (one (listed (c .args .counts .now))) (c .loop .self .file .now) (c .args .self .now .file .now) (i .2) (c .loop .counter) (c .args .self .now .place) (c .loop .self .place) ts (i .0 .1)
             q t (ts ++ t ∷ []) e refl,
-        marks-more (c .loop .named) (c .add .last .self) ts t (c .as-slice .result .now) (listed (c .in-Continue-table .table .scope)) (i .0 .2) (c .as-slice .ensures) (r .3 .1) (c .add .ensures),
-        omega (arith, rows-push ts t, i .0 .3, r .3 .2),
+        marks-more (c .loop .named) (c .add .last .self) ts t (c .as-slice .result .now) (listed (c .in-Continue-table .table .scope)) (i .0 .2) (c .as-slice .ensures) (r .2 .scope) (c .add .ensures),
+        omega (arith, rows-push ts t, i .0 .3, r .2 .rows),
       ),
-      omega (arith, few, i .0 .3, r .3 .2),
+      omega (arith, few, i .0 .3, r .2 .rows),
       h .same ∙ i .2,
     )
