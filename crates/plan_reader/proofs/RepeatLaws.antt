@@ -1,4 +1,4 @@
--- Readings one after another, for the loops that make them. A turn reads in the file `now`, which is the file that the loop began with.
+-- Readings one after another, for the loops that make them.
 use mathlib.Core.List.{List, [], _∷_, _++_}
 use mathlib.Core.Path.{_≡_, refl, sym, _∙_, ap}
 use mathlib.Core.Logic.{inl, inr}
@@ -13,6 +13,7 @@ use Rattle.plan_format.specs.Reading.{Read, got, refused, _then_, repeat}
 use Rattle.plan_format.proofs.Exactly.{then-got, got-is}
 
 module _ {A : Type 0} (one : List A → ℕ → Read A) where
+  -- a refusal ends the readings, however many were to come
   stops : (n p q : ℕ) (xs : List A) (why : Refusal) → repeat one n p ≡ got xs q → refused why ≡ one xs q → (m : ℕ) → n < m → refused why ≡ repeat one m p
   stops n p q xs why e f zero h = let z : ⊥ = omega arith in absurd z
   stops n p q xs why e f (suc m) h =
@@ -29,18 +30,30 @@ module _ {A : Type 0} (one : List A → ℕ → Read A) where
       let is : t .0 ++ u .0 ∷ [] ≡ xs = got-is (t .0 ++ u .0 ∷ []) xs (u .1) q (u .3) in
       ap length (sym is) ∙ length-push (t .0) (u .0) ∙ add-one (length (t .0)) ∙ ap suc (repeat-length n p (t .0) (t .1) (t .2))
 
-module _ {A : Type 0} (one : List ℕ → List A → ℕ → Read A) (now file : List ℕ) (same : now ≡ file) (n p q : ℕ) (xs : List A) (sofar : repeat (one file) n p ≡ got xs q) where
-  -- one reading more
-  pub repeat-more : (r : ℕ) (x : A) (ys : List A) → got x r ≡ one now xs q → ys ≡ xs ++ x ∷ [] → repeat (one file) (n + 1) p ≡ got ys r
-  repeat-more r x ys f e =
-      let g : got x r ≡ one file xs q = f ∙ ap (λ (b : List ℕ). one b xs q) same in
-      let s = sofar in
-      rw (add-one, s, ← g, e) refl
+-- n items are read, from the place p on up to q; the loop began with the file that it reads now
+pub record Sofar {A : Type 0} (one : List ℕ → List A → ℕ → Read A) (file now : List ℕ) (n p q : ℕ) (xs : List A) : Type 0 where
+  pub items : repeat (one file) n p ≡ got xs q
+  pub same : now ≡ file
 
-  -- a refusal ends the readings, however many were to come
-  pub repeat-stops : (m : ℕ) (why : Refusal) → n < m → refused why ≡ one now xs q → refused why ≡ repeat (one file) m p
-  repeat-stops m why h f = stops (one file) n p q xs why sofar (f ∙ ap (λ (b : List ℕ). one b xs q) same) m h
+module _ {A : Type 0} {one : List ℕ → List A → ℕ → Read A} {file now : List ℕ} {n p q : ℕ} {xs : List A} (s : Sofar one file now n p q xs) where
+  here : {r : Read A} → r ≡ one now xs q → r ≡ one file xs q
+  here e = e ∙ ap (λ (b : List ℕ). one b xs q) (s .same)
 
-  -- all are read
-  pub repeat-all : (m : ℕ) → n ≡ m → got xs q ≡ repeat (one file) m p
-  repeat-all m e = sym sofar ∙ ap (λ k. repeat (one file) k p) e
+  -- one item more
+  pub sofar-more : {later : List ℕ} {r : ℕ} {x : A} {ys : List A} → got x r ≡ one now xs q → later ≡ now → ys ≡ xs ++ x ∷ [] → Sofar one file later (n + 1) p r ys
+  sofar-more e f g =
+      let i = s .items in
+      let k = here e in
+      record { items = rw (add-one, i, ← k, g) refl; same = f ∙ s .same }
+
+  pub sofar-stops : (m : ℕ) {why : Refusal} → n < m → refused why ≡ one now xs q → refused why ≡ repeat (one file) m p
+  sofar-stops m {why} h e = stops (one file) n p q xs why (s .items) (here e) m h
+
+  pub sofar-all : (m : ℕ) → n ≡ m → got xs q ≡ repeat (one file) m p
+  sofar-all m e = sym (s .items) ∙ ap (λ k. repeat (one file) k p) e
+
+  pub sofar-length : length xs ≡ n
+  sofar-length = repeat-length (one file) n p xs q (s .items)
+
+pub sofar-none : {A : Type 0} {one : List ℕ → List A → ℕ → Read A} {file : List ℕ} {p : ℕ} {xs : List A} → xs ≡ [] → Sofar one file file 0 p p xs
+sofar-none {A} {p = p} e = record { items = ap (λ (ys : List A). got ys p) (sym e); same = refl }
