@@ -106,7 +106,9 @@ number-exact file w some p v q = (reads, stands)
       | inr h ↦ (let g = number-got (bits file) w p h in
           let a : number-at (bits file) p w ≡ v = cc in
           let b : p + w ≡ q = cc in
-          (subst (λ n. n < 2 ^ w) a (number-at-below (bits file) (bits-below file) p w), subst (λ n. Stands (bits file) p (spell w n) q) a (subst (λ m. Stands (bits file) p (spell w (number-at (bits file) p w)) m) b (number-stands (bits file) (bits-below file) p w h))))
+          let s : Stands (bits file) p (spell w (number-at (bits file) p w)) q =
+          subst (λ m. Stands (bits file) p (spell w (number-at (bits file) p w)) m) b (number-stands (bits file) (bits-below file) p w h) in
+          (subst (λ n. n < 2 ^ w) a (number-at-below (bits file) (bits-below file) p w), subst (λ n. Stands (bits file) p (spell w n) q) a s))
     ]
 
     stands : (v < 2 ^ w) × Stands (bits file) p (spell w v) q → number (bits file) w p ≡ got v q

@@ -98,7 +98,8 @@ two-table t =
 two-plan : (p : Plan) → Two (spell-plan p)
 two-plan p =
     two-join (spell-header (p .counts)) _
-    (two-join (spell 8 1) (spell 6 (length (p .counts)) ++ joined (spell 6) (p .counts)) (two-spell 8 1) (two-join (spell 6 (length (p .counts))) _ (two-spell 6 (length (p .counts))) (two-joined (spell 6) (two-spell 6) (p .counts))))
+    (two-join (spell 8 1) (spell 6 (length (p .counts)) ++ joined (spell 6) (p .counts)) (two-spell 8 1)
+    (two-join (spell 6 (length (p .counts))) _ (two-spell 6 (length (p .counts))) (two-joined (spell 6) (two-spell 6) (p .counts))))
     (two-join (spell 5 (length (p .tables))) _ (two-spell 5 (length (p .tables))) (two-joined spell-table two-table (p .tables)))
 
 -- bits filled up to whole bytes

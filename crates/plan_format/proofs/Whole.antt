@@ -88,9 +88,9 @@ reads-exactly file p q = (reads, stands)
   where
     reads : read file ≡ got p q → Valid p × FileOf p file × (q ≡ length (spell-plan p))
     reads e =
-        let t = then-got (body (bits file) 0) (λ (p : Plan) (r : ℕ). given (all-named (length (p .counts)) (p .tables)) (Unnamed r) (given (padded (bits file) r) (NotPadded r) (got p r))) p q e in
-        let g = given-got (all-named (length (t .0 .counts)) (t .0 .tables)) (Unnamed (t .1)) (given (padded (bits file) (t .1)) (NotPadded (t .1)) (got (t .0) (t .1))) p q (t .3) in
-        let h = given-got (padded (bits file) (t .1)) (NotPadded (t .1)) (got (t .0) (t .1)) p q (g .1) in
+        let t = then-got (body (bits file) 0) _ p q e in
+        let g = given-got (all-named (length (t .0 .counts)) (t .0 .tables)) (Unnamed (t .1)) _ p q (t .3) in
+        let h = given-got (padded (bits file) (t .1)) (NotPadded (t .1)) _ p q (g .1) in
         let is : t .0 ≡ p = got-is (t .0) p (t .1) q (h .1) in
         let at : t .1 ≡ q = got-at (t .0) p (t .1) q (h .1) in
         let r = body-exact file 0 p q .0 (t .2 ∙ h .1) in

@@ -10,20 +10,26 @@ use Rattle.plan_format.specs.Bits.{bits}
 use Rattle.plan_format.specs.Reading.{Read, got, refused}
 use Rattle.plan_reader.specs.declared.reader.Reader.{Reader}
 
--- the bits of the file that is read
-abbrev pub file-bits : Reader → List ℕ
-file-bits r = bits (now (r .file))
+-- what a reading of the format gives at the reader's place in its file
+abbrev pub at : {A : Type 0} → Reader → (List ℕ → ℕ → Read A) → Read A
+at reader reading = reading (bits (now (reader .file))) (reader .place)
 
 -- the answer r, where Ok a stands for what f makes of a, and q is the place after it
-abbrev pub outcome-as : {A B : Type 0} → (A → B) → Result A Refusal → ℕ → Read B
-outcome-as f (Ok a) q = got (f a) q
-outcome-as f (Err e) q = refused e
+abbrev pub outcome : {A B : Type 0} → (A → B) → Result A Refusal → ℕ → Read B
+outcome f (Ok a) q = got (f a) q
+outcome f (Err e) q = refused e
 
--- the answer r, with the place q after it
-abbrev pub outcome : {A : Type 0} → Result A Refusal → ℕ → Read A
-outcome r q = outcome-as (λ a. a) r q
+-- a call that takes the reader from `before` to `after` answers r, which is f of what the reading gives
+pub record Reads {A B : Type 0} (f : A → B) (before after : Reader) (r : Result A Refusal) (reading : List ℕ → ℕ → Read B) : Type 0 where
+  pub reads : outcome f r (after .place) ≡ at before reading
+  pub same : now (after .file) ≡ now (before .file)
 
--- the answer r, with the place q after it, of a reading of which not all is kept: `Kept` says what is
-abbrev pub Reads : {A B : Type 0} → Result A Refusal → ℕ → Read B → (A → B → Type 0) → Type 0
-Reads {A} {B} (Ok a) q reading Kept = (x : B) × (reading ≡ got x q) × Kept a x
-Reads (Err e) q reading Kept = reading ≡ refused e
+-- the answer r to a reading of which not all is kept, with the place q after it: `Kept` says what is
+abbrev pub Keeping : {A B : Type 0} → (A → B → Type 0) → Result A Refusal → ℕ → Read B → Type 0
+Keeping {A} {B} Kept (Ok a) q reading = (x : B) × (reading ≡ got x q) × Kept a x
+Keeping Kept (Err e) q reading = reading ≡ refused e
+
+-- the same of a call, where what it answers is kept of what the reading gives
+pub record Keeps {A B : Type 0} (Kept : A → B → Type 0) (before after : Reader) (r : Result A Refusal) (reading : List ℕ → ℕ → Read B) : Type 0 where
+  pub reads : Keeping Kept r (after .place) (at before reading)
+  pub same : now (after .file) ≡ now (before .file)

@@ -3,7 +3,7 @@ ghost use Prim.Native.Nat.{_^_, _<_};
 ghost use Rattle.plan_format.specs.Bits.{bits};
 ghost use Rattle.plan_format.specs.Reading.{body as bodyOf, padded};
 ghost use Rattle.plan_reader.specs.Heads.{HeadOfPlan};
-ghost use Rattle.plan_reader.specs.Outcomes.{file-bits, Reads};
+ghost use Rattle.plan_reader.specs.Outcomes.{Keeps};
 use crate::named::Named;
 use crate::reader::Reader;
 use crate::reader::bit_at;
@@ -23,8 +23,7 @@ impl Reader<'_> {
     // Header and tables.
     pub(crate) fn body(&mut self) -> Result<PlanHead, Refusal>
         requires { ⌜ now self .place < 2 ^ 19 ⌝ }
-        ensures reads { λ r. ⌜ Reads r (now (self .exit) .place) (bodyOf (file-bits (now (self .entry))) (now (self .entry) .place)) HeadOfPlan ⌝ }
-        ensures same { λ _. ⌜ now (now (self .exit) .file) ≡ now (now (self .entry) .file) ⌝ }
+        ensures { λ r. ⌜ Keeps HeadOfPlan (now (self .entry)) (now (self .exit)) r bodyOf ⌝ }
     {
         let counts = self.header()?;
         let tables = self.ranged(5, 1, 16)?;

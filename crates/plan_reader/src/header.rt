@@ -2,7 +2,7 @@ ghost use mathlib.Core.Path.{_≡_};
 ghost use Prim.Native.Nat.{_^_, _<_, _≤_};
 ghost use Rattle.plan_format.specs.Reading.{header as headerOf, ranged as rangedOf, repeat};
 ghost use Rattle.plan_reader.specs.Lists.{listed};
-ghost use Rattle.plan_reader.specs.Outcomes.{file-bits, outcome-as};
+ghost use Rattle.plan_reader.specs.Outcomes.{Reads};
 use crate::reader::Reader;
 use crate::short_list::ShortList;
 use refusal::Refusal;
@@ -11,8 +11,7 @@ impl Reader<'_> {
     // The value counts of `n` settings.
     fn counts(&mut self, n: u16) -> Result<ShortList, Refusal>
         requires { ⌜ n ≤ 32 ⌝ ∗ ⌜ now self .place < 2 ^ 30 ⌝ }
-        ensures reads { λ r. ⌜ outcome-as listed r (now (self .exit) .place) ≡ repeat (λ _. rangedOf (file-bits (now (self .entry))) 6 1 32) n (now (self .entry) .place) ⌝ }
-        ensures same { λ _. ⌜ now (now (self .exit) .file) ≡ now (now (self .entry) .file) ⌝ }
+        ensures { λ r. ⌜ Reads listed (now (self .entry)) (now (self .exit)) r (λ b. repeat (λ _. rangedOf b 6 1 32) n) ⌝ }
     {
         let mut counts = ShortList::new();
         for _ in 0..n {
@@ -25,8 +24,7 @@ impl Reader<'_> {
     // Edition, setting count and value counts.
     pub(crate) fn header(&mut self) -> Result<ShortList, Refusal>
         requires { ⌜ now self .place < 2 ^ 29 ⌝ }
-        ensures reads { λ r. ⌜ outcome-as listed r (now (self .exit) .place) ≡ headerOf (file-bits (now (self .entry))) (now (self .entry) .place) ⌝ }
-        ensures same { λ _. ⌜ now (now (self .exit) .file) ≡ now (now (self .entry) .file) ⌝ }
+        ensures { λ r. ⌜ Reads listed (now (self .entry)) (now (self .exit)) r headerOf ⌝ }
     {
         self.ranged(8, 1, 1)?;
         let n = self.ranged(6, 1, 32)?;

@@ -3,7 +3,7 @@ ghost use mathlib.Core.Path.{_≡_};
 ghost use Prim.Native.Nat.{_*_, _^_, _<_, _≤_};
 ghost use Rattle.plan_format.specs.Bits.{bits};
 ghost use Rattle.plan_format.specs.Reading.{number as numberOf, number-below, ranged as rangedOf};
-ghost use Rattle.plan_reader.specs.Outcomes.{file-bits, outcome};
+ghost use Rattle.plan_reader.specs.Outcomes.{Reads};
 use refusal::Refusal;
 
 // A file that is read from the front, and the place of the next bit.
@@ -26,8 +26,7 @@ impl Reader<'_> {
     // The number of `width` bits.
     pub(crate) fn number(&mut self, width: u32) -> Result<u16, Refusal>
         requires { ⌜ width ≤ 16 ⌝ ∗ ⌜ now self .place < 2 ^ 31 ⌝ }
-        ensures reads { λ r. ⌜ outcome r (now (self .exit) .place) ≡ numberOf (file-bits (now (self .entry))) width (now (self .entry) .place) ⌝ }
-        ensures same { λ _. ⌜ now (now (self .exit) .file) ≡ now (now (self .entry) .file) ⌝ }
+        ensures { λ r. ⌜ Reads (λ n. n) (now (self .entry)) (now (self .exit)) r (λ b. numberOf b width) ⌝ }
     {
         let file = self.file;
         let place = self.place;
@@ -45,8 +44,7 @@ impl Reader<'_> {
     // The number of `width` bits, from `low` to `high`.
     pub(crate) fn ranged(&mut self, width: u32, low: u16, high: u16) -> Result<u16, Refusal>
         requires { ⌜ width ≤ 16 ⌝ ∗ ⌜ now self .place < 2 ^ 31 ⌝ }
-        ensures reads { λ r. ⌜ outcome r (now (self .exit) .place) ≡ rangedOf (file-bits (now (self .entry))) width low high (now (self .entry) .place) ⌝ }
-        ensures same { λ _. ⌜ now (now (self .exit) .file) ≡ now (now (self .entry) .file) ⌝ }
+        ensures { λ r. ⌜ Reads (λ n. n) (now (self .entry)) (now (self .exit)) r (λ b. rangedOf b width low high) ⌝ }
     {
         let place = self.place;
         let value = self.number(width)?;
@@ -59,8 +57,7 @@ impl Reader<'_> {
     // The number of 5 bits, below `n`.
     pub(crate) fn below(&mut self, n: u8) -> Result<u8, Refusal>
         requires { ⌜ now self .place < 2 ^ 31 ⌝ }
-        ensures reads { λ r. ⌜ outcome r (now (self .exit) .place) ≡ number-below (file-bits (now (self .entry))) n (now (self .entry) .place) ⌝ }
-        ensures same { λ _. ⌜ now (now (self .exit) .file) ≡ now (now (self .entry) .file) ⌝ }
+        ensures { λ r. ⌜ Reads (λ n. n) (now (self .entry)) (now (self .exit)) r (λ b. number-below b n) ⌝ }
     {
         let place = self.place;
         let value = self.number(5)?;

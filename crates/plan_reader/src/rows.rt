@@ -5,7 +5,7 @@ ghost use Prim.Native.Nat.{ℕ, _^_, _<_, _≤_};
 ghost use Rattle.model.specs.Tests.{below as belowOf};
 ghost use Rattle.plan_format.specs.Reading.{repeat, row as rowOf, value as valueOf};
 ghost use Rattle.plan_reader.specs.Lists.{above, Last, listed};
-ghost use Rattle.plan_reader.specs.Outcomes.{file-bits, outcome-as, Reads};
+ghost use Rattle.plan_reader.specs.Outcomes.{Keeps, Reads};
 use crate::reader::Reader;
 use crate::short_list::ShortList;
 use refusal::Refusal;
@@ -39,8 +39,7 @@ impl Reader<'_> {
     // A value for each setting of the scope, below its value count.
     fn values(&mut self, counts: &ShortList, scope: &ShortList) -> Result<ShortList, Refusal>
         requires { ⌜ now self .place < 2 ^ 30 ⌝ }
-        ensures reads { λ r. ⌜ outcome-as listed r (now (self .exit) .place) ≡ repeat (valueOf (file-bits (now (self .entry))) (listed (now (counts .entry))) (listed (now (scope .entry)))) (length (listed (now (scope .entry)))) (now (self .entry) .place) ⌝ }
-        ensures same { λ _. ⌜ now (now (self .exit) .file) ≡ now (now (self .entry) .file) ⌝ }
+        ensures { λ r. ⌜ Reads listed (now (self .entry)) (now (self .exit)) r (λ b. repeat (valueOf b (listed (now (counts .entry))) (listed (now (scope .entry)))) (length (listed (now (scope .entry))))) ⌝ }
     {
         let mut values = ShortList::new();
         for k in 0..scope.len() {
@@ -59,8 +58,7 @@ impl Reader<'_> {
         last: &Option<ShortList>,
     ) -> Result<ShortList, Refusal>
         requires { ⌜ now self .place < 2 ^ 30 ⌝ }
-        ensures reads { λ r. ⌜ ((before : List (List ℕ)) → Last before (now (last .entry)) → outcome-as listed r (now (self .exit) .place) ≡ rowOf (file-bits (now (self .entry))) (listed (now (counts .entry))) (listed (now (scope .entry))) before (now (self .entry) .place)) ⌝ }
-        ensures same { λ _. ⌜ now (now (self .exit) .file) ≡ now (now (self .entry) .file) ⌝ }
+        ensures { λ r. ⌜ ((before : List (List ℕ)) → Last before (now (last .entry)) → Reads listed (now (self .entry)) (now (self .exit)) r (λ b. rowOf b (listed (now (counts .entry))) (listed (now (scope .entry))) before)) ⌝ }
     {
         let place = self.place;
         let row = self.values(counts, scope)?;
@@ -78,8 +76,7 @@ impl Reader<'_> {
         count: u16,
     ) -> Result<(), Refusal>
         requires { ⌜ count ≤ 512 ⌝ ∗ ⌜ now self .place < 2 ^ 29 ⌝ }
-        ensures reads { λ r. ⌜ Reads r (now (self .exit) .place) (repeat (rowOf (file-bits (now (self .entry))) (listed (now (counts .entry))) (listed (now (scope .entry)))) count (now (self .entry) .place)) (λ _ _. Unit {0}) ⌝ }
-        ensures same { λ _. ⌜ now (now (self .exit) .file) ≡ now (now (self .entry) .file) ⌝ }
+        ensures { λ r. ⌜ Keeps (λ _ rows. Unit {0}) (now (self .entry)) (now (self .exit)) r (λ b. repeat (rowOf b (listed (now (counts .entry))) (listed (now (scope .entry)))) count) ⌝ }
     {
         let mut last = None;
         for _ in 0..count {

@@ -2,7 +2,7 @@ ghost use mathlib.Core.Path.{_≡_};
 ghost use Prim.Native.Nat.{_^_, _<_, _≤_};
 ghost use Rattle.plan_format.specs.Reading.{repeat, setting as settingOf};
 ghost use Rattle.plan_reader.specs.Lists.{listed};
-ghost use Rattle.plan_reader.specs.Outcomes.{file-bits, outcome, outcome-as};
+ghost use Rattle.plan_reader.specs.Outcomes.{Reads};
 use crate::reader::Reader;
 use crate::short_list::ShortList;
 use refusal::Refusal;
@@ -11,8 +11,7 @@ impl Reader<'_> {
     // A setting number below `n`, above those before it.
     fn setting(&mut self, n: u8, before: &ShortList) -> Result<u8, Refusal>
         requires { ⌜ now self .place < 2 ^ 31 ⌝ }
-        ensures reads { λ r. ⌜ outcome r (now (self .exit) .place) ≡ settingOf (file-bits (now (self .entry))) n (listed (now (before .entry))) (now (self .entry) .place) ⌝ }
-        ensures same { λ _. ⌜ now (now (self .exit) .file) ≡ now (now (self .entry) .file) ⌝ }
+        ensures { λ r. ⌜ Reads (λ n. n) (now (self .entry)) (now (self .exit)) r (λ b. settingOf b n (listed (now (before .entry)))) ⌝ }
     {
         let place = self.place;
         let setting = self.below(n)?;
@@ -25,8 +24,7 @@ impl Reader<'_> {
     // `width` setting numbers below `n`, ascending.
     pub(crate) fn scope(&mut self, n: u8, width: u16) -> Result<ShortList, Refusal>
         requires { ⌜ width ≤ 32 ⌝ ∗ ⌜ now self .place < 2 ^ 30 ⌝ }
-        ensures reads { λ r. ⌜ outcome-as listed r (now (self .exit) .place) ≡ repeat (settingOf (file-bits (now (self .entry))) n) width (now (self .entry) .place) ⌝ }
-        ensures same { λ _. ⌜ now (now (self .exit) .file) ≡ now (now (self .entry) .file) ⌝ }
+        ensures { λ r. ⌜ Reads listed (now (self .entry)) (now (self .exit)) r (λ b. repeat (settingOf b n) width) ⌝ }
     {
         let mut scope = ShortList::new();
         for _ in 0..width {

@@ -5,7 +5,7 @@ ghost use Rattle.model.specs.Plan.{Table, rows-in};
 ghost use Rattle.plan_format.specs.Reading.{repeat, table as tableOf};
 ghost use Rattle.plan_reader.specs.Heads.{HeadOf, HeadOfTables};
 ghost use Rattle.plan_reader.specs.Lists.{listed};
-ghost use Rattle.plan_reader.specs.Outcomes.{file-bits, Reads};
+ghost use Rattle.plan_reader.specs.Outcomes.{Keeps};
 use crate::named::Named;
 use crate::reader::Reader;
 use crate::short_list::ShortList;
@@ -29,8 +29,7 @@ impl Reader<'_> {
     // A table, where those before it have `earlier` rows.
     fn table(&mut self, counts: &ShortList, earlier: u16) -> Result<TableHead, Refusal>
         requires { ⌜ earlier ≤ 4096 ⌝ ∗ ⌜ now self .place < 2 ^ 28 ⌝ }
-        ensures reads { λ r. ⌜ ((before : List Table) → rows-in before ≡ earlier → Reads r (now (self .exit) .place) (tableOf (file-bits (now (self .entry))) (listed (now (counts .entry))) before (now (self .entry) .place)) HeadOf) ⌝ }
-        ensures same { λ _. ⌜ now (now (self .exit) .file) ≡ now (now (self .entry) .file) ⌝ }
+        ensures { λ r. ⌜ ((before : List Table) → rows-in before ≡ earlier → Keeps HeadOf (now (self .entry)) (now (self .exit)) r (λ b. tableOf b (listed (now (counts .entry))) before)) ⌝ }
     {
         let width = self.ranged(4, 1, 8)?;
         let scope = self.scope(counts.len() as u8, width)?;
@@ -46,8 +45,7 @@ impl Reader<'_> {
     // `count` tables.
     pub(crate) fn tables(&mut self, counts: &ShortList, count: u16) -> Result<TablesHead, Refusal>
         requires { ⌜ count ≤ 16 ⌝ ∗ ⌜ now self .place < 2 ^ 20 ⌝ }
-        ensures reads { λ r. ⌜ Reads r (now (self .exit) .place) (repeat (tableOf (file-bits (now (self .entry))) (listed (now (counts .entry)))) count (now (self .entry) .place)) HeadOfTables ⌝ }
-        ensures same { λ _. ⌜ now (now (self .exit) .file) ≡ now (now (self .entry) .file) ⌝ }
+        ensures { λ r. ⌜ Keeps HeadOfTables (now (self .entry)) (now (self .exit)) r (λ b. repeat (tableOf b (listed (now (counts .entry)))) count) ⌝ }
     {
         let mut named = Named::none();
         let mut rows = 0;

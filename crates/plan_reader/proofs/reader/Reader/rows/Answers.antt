@@ -25,16 +25,16 @@ row-requires c κs =
 pub returns-in-Break-row : need.returns-in-Break-row
 returns-in-Break-row c =
     let i = c .loop .inv in
-    let h = c .in-Break-row .ensures tt in
+    let h = c .in-Break-row .ensures tt (i .0) (i .2) in
     let x = err-from-errBy (c .from-residual .result) (c .from-residual .ensures .1) in
-    rw (x .1, x .2) (record { reads = sym (sofar-stops (i .1) (c .args .count) (omega arith) (h .reads (i .0) (i .2))); same = h .same ∙ i .1 .same })
+    rw (x .1, x .2) (record { reads = sym (sofar-stops (i .1) (c .args .count) (omega arith) (h .reads)); same = h .same ∙ i .1 .same })
 
 pub loop-again : need.loop-again
 loop-again c =
     let i = c .loop .inv in
     let row = listed (c .in-Continue-row .row) in
-    let h = c .in-Continue-row .ensures tt in
-    (i .0 ++ row ∷ [], sofar-more (i .1) (h .reads (i .0) (i .2)) (h .same) refl, follow-last below (i .0) row)
+    let h = c .in-Continue-row .ensures tt (i .0) (i .2) in
+    (i .0 ++ row ∷ [], sofar-more (i .1) (h .reads) (h .same) refl, follow-last below (i .0) row)
 
 pub returns : need.returns
 returns c = let i = c .loop .inv in record { reads = (i .0, sym (sofar-all (i .1) (c .args .count) (omega arith)), tt); same = i .1 .same }

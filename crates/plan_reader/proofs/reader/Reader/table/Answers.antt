@@ -19,11 +19,16 @@ scope-ends file now n p w p1 scope p2 e f =
 
 pub ranged-requires-2 : need.ranged-requires-2
 ranged-requires-2 c κs =
-    (omega arith, omega (arith, scope-ends (c .args .self .now .file .now) (c .ranged .last .self .file .now) (c .len .result) (c .args .self .now .place) (c .in-Continue-width .width) (c .ranged .last .self .place) (listed (c .in-Continue-scope .scope)) (c .scope .last .self .place) (c .in-Continue-width .ensures tt .reads) (c .in-Continue-scope .ensures tt .reads)))
+    let s =
+    scope-ends (c .args .self .now .file .now) (c .ranged .last .self .file .now) (c .len .result) (c .args .self .now .place) (c .in-Continue-width .width)
+    (c .ranged .last .self .place) (listed (c .in-Continue-scope .scope)) (c .scope .last .self .place) (c .in-Continue-width .ensures tt .reads) (c .in-Continue-scope .ensures tt .reads) in
+    (omega arith, omega (arith, s))
 
 pub rows-requires : need.rows-requires
 rows-requires c κs =
-    let s = scope-ends (c .args .self .now .file .now) (c .ranged .last .self .file .now) (c .len .result) (c .args .self .now .place) (c .in-Continue-width .width) (c .ranged .last .self .place) (listed (c .in-Continue-scope .scope)) (c .scope .last .self .place) (c .in-Continue-width .ensures tt .reads) (c .in-Continue-scope .ensures tt .reads) in
+    let s =
+    scope-ends (c .args .self .now .file .now) (c .ranged .last .self .file .now) (c .len .result) (c .args .self .now .place) (c .in-Continue-width .width)
+    (c .ranged .last .self .place) (listed (c .in-Continue-scope .scope)) (c .scope .last .self .place) (c .in-Continue-width .ensures tt .reads) (c .in-Continue-scope .ensures tt .reads) in
     let b = bits (c .scope .last .self .file .now) in
     let p = c .scope .last .self .place in
     let k = c .in-Continue-rows .rows in
@@ -54,8 +59,8 @@ returns c =
     let q = c .rows .last .self .place in
     let e4 : repeat (row (bits file) counts scope) k p3 ≡ got rows q = ap (λ (f : List ℕ). repeat (row (bits f) counts scope) k p3) (sym s3) ∙ h4 .reads .1 in
     let tall : k ≡ length rows = sym (repeat-length (row (bits file) counts scope) k p3 rows q e4) in
-    record {
-      reads = λ before i. (
+    λ before i. record {
+      reads = (
         record { scope = scope; rows = rows },
         table-got (bits file) counts scope before rows (c .args .self .now .place) w p1 n p2 k p3 q (c .args .earlier) i (c .len .ensures) (omega arith) (h1 .reads) e2 e3 e4,
         record { scope = refl; rows = tall },

@@ -37,14 +37,14 @@ table-requires c κs =
 pub returns-in-Break-table : need.returns-in-Break-table
 returns-in-Break-table c =
     let i = c .loop .inv in
-    let h = c .in-Break-table .ensures tt in
+    let h = c .in-Break-table .ensures tt (i .0) (sym (i .3)) in
     let x = err-from-errBy (c .from-residual .result) (c .from-residual .ensures .1) in
-    rw (x .1, x .2) (record { reads = sym (sofar-stops (i .1) (c .args .count) (omega arith) (sym (h .reads (i .0) (sym (i .3))))); same = h .same ∙ i .1 .same })
+    rw (x .1, x .2) (record { reads = sym (sofar-stops (i .1) (c .args .count) (omega arith) (sym (h .reads))); same = h .same ∙ i .1 .same })
 
 pub add-rows : need.add-rows
 add-rows c =
     let i = c .loop .inv in
-    let r = c .in-Continue-table .ensures tt .reads (i .0) (sym (i .3)) in
+    let r = c .in-Continue-table .ensures tt (i .0) (sym (i .3)) .reads in
     let few = table-few (bits (c .loop .self .file .now)) (listed (c .args .counts .now)) (i .0) (c .loop .self .place) (r .0) (c .table .last .self .place) (r .1) in
     omega (arith, few, i .3, r .2 .rows)
 
@@ -52,8 +52,8 @@ pub loop-again : need.loop-again
 loop-again c =
     let i = c .loop .inv in
     let ts = i .0 in
-    let h = c .in-Continue-table .ensures tt in
-    let r = h .reads ts (sym (i .3)) in
+    let h = c .in-Continue-table .ensures tt ts (sym (i .3)) in
+    let r = h .reads in
     let t = r .0 in
     let few = table-few (bits (c .loop .self .file .now)) (listed (c .args .counts .now)) ts (c .loop .self .place) t (c .table .last .self .place) (r .1) in (
       ts ++ t ∷ [],
