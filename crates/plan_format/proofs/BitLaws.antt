@@ -1,17 +1,16 @@
 -- Bits, and numbers spelt in bits.
-use mathlib.Core.List.{List, [], _∷_, _++_}
-use mathlib.Core.Path.{_≡_, refl, sym, _∙_, ap}
-use Prim.Native.Nat.{ℕ, zero, suc, _+_, _-_, _*_, _/_, _%_, _^_, _<_, _≤_, suc-le-suc, zero-le}
+use mathlib.Core.List.{List, [], _∷_}
+use mathlib.Core.Path.{_≡_, refl, _∙_, ap}
+use Prim.Native.Nat.{ℕ, zero, suc, _+_, _-_, _*_, _/_, _%_, _^_, _<_, _≤_}
 use native.Mathlib.Omega.{arith}
-use native.Mathlib.Nat.{add-zero, pow-suc}
-use native.Mathlib.Numerals.{add-one}
-use lib.ListN.{length, getD, length-append}
+use native.Mathlib.Nat.{pow-suc}
+use lib.ListN.{length, getD}
 use Rattle.std.proofs.shelf.Lists.{getD-append-left, getD-append-add, getD-past}
-use Rattle.std.proofs.shelf.Bits.{mod-below, pow-pos}
+use Rattle.std.proofs.shelf.Bits.{mod-below}
 use Rattle.std.proofs.shelf.Tests.{cases-lt, le-leb, lt-leb}
 use mathlib.Core.Logic.{inl, inr}
 use Rattle.refusal.specs.declared.reason.Refusal.the-variants.{CutShort}
-use Rattle.plan_format.specs.Reading.{Read, got, refused, number}
+use Rattle.plan_format.specs.Reading.{got, refused, number}
 use Rattle.plan_format.specs.Bits.{spell, bits, number-at}
 
 pub length-spell : (w n : ℕ) → length (spell w n) ≡ w

@@ -1,13 +1,13 @@
 -- Bits that stand at the front of a list, and the padding after them.
 use mathlib.Core.List.{List, [], _∷_, _++_}
 use mathlib.Core.Path.{_≡_, refl, sym, _∙_, ap, subst}
-use mathlib.Core.Bool.{Bool, true, false, _&&_}
-use Prim.Native.Nat.{ℕ, zero, suc, _+_, _-_, _<_, _≤_}
+use mathlib.Core.Bool.{true}
+use Prim.Native.Nat.{ℕ, zero, suc, _+_, _-_, _<_}
 use native.Mathlib.Omega.{arith}
 use lib.ListN.{length, getD, drop, replicate, length-append, length-drop, length-replicate}
 use lib.Seq.{drop-cons, drop-append-seam}
 use lib.Dec.{ltb, eqb}
-use Rattle.std.proofs.shelf.Tests.{ltb-true, lt-ltb, eqb-true, and-parts, and-from, both-ways}
+use Rattle.std.proofs.shelf.Tests.{ltb-true, lt-ltb, eqb-true, and-parts, and-from}
 use Rattle.plan_format.specs.Reading.{zeros, padded}
 use Rattle.plan_format.proofs.Exactly.{Stands}
 

@@ -7,7 +7,7 @@ use lib.ListN.{length, getD}
 use Rattle.std.specs.Joined.{joined}
 use Rattle.model.specs.Rules.{Each}
 use Rattle.plan_format.specs.Bits.{bits, spell}
-use Rattle.plan_format.specs.Reading.{Read, got, ranged, header}
+use Rattle.plan_format.specs.Reading.{ranged, header}
 use Rattle.plan_format.specs.File.{spell-header}
 use Rattle.plan_format.proofs.Exactly.{Exact, Chain, exact-as, then-exact, repeat-exact, ranged-exact}
 use Rattle.plan_format.proofs.Chains.{each-from, each-to}

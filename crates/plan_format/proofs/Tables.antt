@@ -1,5 +1,5 @@
 -- Reading rows and tables is exact.
-use mathlib.Core.List.{List, [], _∷_, _++_}
+use mathlib.Core.List.{List, [], _++_}
 use mathlib.Core.Path.{_≡_, refl, sym, ap}
 use mathlib.Core.Bool.{true}
 use Prim.Native.Nat.{ℕ, _+_, _<_, _≤_}
@@ -10,11 +10,11 @@ use Rattle.std.specs.Joined.{joined}
 use Rattle.std.proofs.shelf.Tests.{leb-true, le-leb}
 use Rattle.refusal.specs.declared.reason.Refusal.the-variants.{NotAscending, TooManyRows}
 use Rattle.model.specs.Plan.{Table, height, rows-in}
-use Rattle.model.specs.Rules.{TableRules, Each, Fits, Below}
+use Rattle.model.specs.Rules.{Each, Fits, Below}
 use Rattle.model.specs.Tests.{below}
 use Rattle.model.proofs.Deciding.{less-decides, below-decides}
 use Rattle.plan_format.specs.Bits.{bits, spell}
-use Rattle.plan_format.specs.Reading.{Read, got, _then_, repeat, may-follow, ranged, number-below, setting, value, row, table}
+use Rattle.plan_format.specs.Reading.{got, _then_, repeat, may-follow, ranged, number-below, setting, value, row, table}
 use Rattle.plan_format.specs.File.{spell-row, spell-table}
 use Rattle.plan_format.proofs.Exactly.{Exact, Chain, exact-as, tested-exact, given-exact, then-exact, made-exact, repeat-exact, ranged-exact, number-below-exact}
 use Rattle.plan_format.proofs.Chains.{Above, ascending-from, ascending-to, GoodValue, values-from, values-to, fits-length, GoodTable}

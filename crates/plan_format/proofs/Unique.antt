@@ -1,11 +1,10 @@
 -- A file has one plan, and a plan has one file.
 use mathlib.Core.List.{List, [], _∷_, _++_}
 use mathlib.Core.Path.{_≡_, refl, sym, _∙_, ap, subst}
-use mathlib.Core.Logic.{inl, inr}
-use Prim.Native.Nat.{ℕ, zero, suc, _+_, _-_, _*_, _/_, _%_, _^_, _<_, _≤_}
+use Prim.Native.Nat.{ℕ, zero, suc, _+_, _-_, _*_, _/_, _^_, _<_}
 use native.Mathlib.Omega.{arith}
 use lib.ListN.{length, getD, drop, replicate, length-append, length-drop, length-replicate}
-use lib.Seq.{drop-append-seam, getD-drop}
+use lib.Seq.{getD-drop}
 use Rattle.std.specs.Joined.{joined}
 use Rattle.std.proofs.shelf.Bits.{mod-below}
 use Rattle.refusal.specs.declared.reason.Refusal.{Refusal}
@@ -15,8 +14,8 @@ use Rattle.plan_format.specs.Bits.{bits, spell, number-at}
 use Rattle.plan_format.specs.Reading.{Read, got, refused, read}
 use Rattle.plan_format.specs.File.{spell-header, spell-row, spell-table, spell-plan, FileOf}
 use Rattle.plan_format.specs.Laws.{Bytes, Refuses-the-rest, One-plan, One-file}
-use Rattle.plan_format.proofs.BitLaws.{length-bits, length-spell, number-at-below}
-use Rattle.plan_format.proofs.Exactly.{got-is, Stands, number-stands, number-reads}
+use Rattle.plan_format.proofs.BitLaws.{length-bits, number-at-below}
+use Rattle.plan_format.proofs.Exactly.{got-is, number-stands, number-reads}
 use Rattle.plan_format.proofs.Ending.{stands-rest, rest-stands}
 use Rattle.plan_format.proofs.Whole.{reads-exactly}
 

@@ -1,5 +1,5 @@
 -- Reading a whole file is exact.
-use mathlib.Core.List.{List, [], _∷_, _++_}
+use mathlib.Core.List.{List, [], _++_}
 use mathlib.Core.Path.{_≡_, refl, sym, _∙_, ap, subst}
 use mathlib.Core.Bool.{true}
 use Prim.Native.Nat.{ℕ, _≤_}
@@ -7,15 +7,15 @@ use native.Mathlib.Omega.{arith}
 use lib.ListN.{length}
 use Rattle.std.specs.Joined.{joined}
 use Rattle.refusal.specs.declared.reason.Refusal.the-variants.{Unnamed, NotPadded}
-use Rattle.model.specs.Plan.{Plan, Table}
-use Rattle.model.specs.Rules.{Valid, Each, TableRules}
+use Rattle.model.specs.Plan.{Plan}
+use Rattle.model.specs.Rules.{Valid, Each}
 use Rattle.model.specs.Tests.{all-named}
 use Rattle.model.proofs.Deciding.{all-named-decides}
 use Rattle.plan_format.specs.Bits.{bits, spell}
-use Rattle.plan_format.specs.Reading.{Read, got, _then_, given, repeat, ranged, header, table, padded, body, read}
+use Rattle.plan_format.specs.Reading.{got, _then_, repeat, ranged, header, table, padded, body, read}
 use Rattle.plan_format.specs.File.{spell-header, spell-table, spell-plan, FileOf}
 use Rattle.plan_format.specs.Laws.{Reads-exactly}
-use Rattle.plan_format.proofs.Exactly.{then-got, given-got, got-is, got-at, Stands, Exact, Chain, then-exact, made-exact, repeat-exact, ranged-exact, stands-end}
+use Rattle.plan_format.proofs.Exactly.{then-got, given-got, got-is, got-at, Exact, Chain, then-exact, made-exact, repeat-exact, ranged-exact, stands-end}
 use Rattle.plan_format.proofs.Chains.{GoodTable, tables-from, tables-to}
 use Rattle.plan_format.proofs.Header.{InCount, GoodCounts, header-exact}
 use Rattle.plan_format.proofs.Tables.{table-exact}

@@ -1,15 +1,15 @@
 -- A whole file, from its body; and the answer to it in the words of plan files.
 use mathlib.Core.List.{List}
 use mathlib.Core.Path.{_≡_, refl, sym, _∙_, ap}
-use mathlib.Core.Bool.{Bool, true, false}
-use Prim.Native.Nat.{ℕ, _≤_}
+use mathlib.Core.Bool.{true, false}
+use Prim.Native.Nat.{ℕ}
 use native.Mathlib.Omega.{arith}
 use lib.ListN.{length}
 use Rattle.std.specs.declared.result.Result.{Result}
 use Rattle.std.specs.declared.result.Result.the-variants.{Ok, Err}
 use Rattle.refusal.specs.declared.reason.Refusal.{Refusal}
 use Rattle.refusal.specs.declared.reason.Refusal.the-variants.{Unnamed, NotPadded}
-use Rattle.model.specs.Plan.{Plan, Table}
+use Rattle.model.specs.Plan.{Plan}
 use Rattle.model.specs.Rules.{Valid}
 use Rattle.model.specs.Tests.{any, names, all-below, all-named}
 use Rattle.plan_format.specs.Bits.{bits}

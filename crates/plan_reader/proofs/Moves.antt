@@ -1,8 +1,8 @@
 -- By how many bits a reading moves on, at most.
 use mathlib.Core.List.{List, [], _∷_, _++_}
-use mathlib.Core.Path.{_≡_, refl, sym, _∙_, ap}
-use mathlib.Core.Bool.{Bool, true, false, _&&_}
-use Prim.Native.Nat.{ℕ, zero, suc, _+_, _*_, _≤_, _<_}
+use mathlib.Core.Path.{_≡_, _∙_}
+use mathlib.Core.Bool.{Bool, _&&_}
+use Prim.Native.Nat.{ℕ, zero, suc, _+_, _*_, _≤_}
 use native.Mathlib.Omega.{arith}
 use native.Mathlib.Nat.{mul-suc}
 use lib.Dec.{leb, ltb}
@@ -24,17 +24,6 @@ number-moves : (b : List ℕ) (w : ℕ) → Moves (number b w) w
 number-moves b w p a q e =
     let g = given-got (leb (p + w) (length b)) (CutShort p) (got (number-at b p w) (p + w)) a q e in
     omega (arith, got-at (number-at b p w) a (p + w) q (g .1))
-
-then-moves : {A B : Type 0} (first : ℕ → Read A) (rest : ℕ → A → ℕ → Read B) (v w : ℕ)
-    → Moves first v → ((p : ℕ) (a : A) → Moves (rest p a) w) → Moves (λ p. _then_ (first p) (rest p)) (v + w)
-then-moves first rest v w x y p a q e =
-    let t = then-got (first p) (rest p) a q e in
-    let i = x p (t .0) (t .1) (t .2) in
-    let j = y p (t .0) (t .1) a q (t .3) in
-    omega (arith, i, j)
-
-given-moves : {A : Type 0} (test : Bool) (why : Refusal) (read : ℕ → Read A) (w : ℕ) → Moves read w → Moves (λ p. given test why (read p)) w
-given-moves test why read w x p a q e = x p a q (given-got test why (read p) a q e .1)
 
 -- a test of what was read takes no bit
 tested-moves : {A : Type 0} (read : ℕ → Read A) (test : A → Bool) (why : ℕ → Refusal) (w : ℕ)

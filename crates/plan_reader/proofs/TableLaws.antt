@@ -1,7 +1,7 @@
 -- A table and a plan, put together from the readings of their parts.
 use mathlib.Core.List.{List}
 use mathlib.Core.Path.{_≡_, refl, sym, _∙_, ap}
-use mathlib.Core.Bool.{true, false}
+use mathlib.Core.Bool.{true}
 use Prim.Native.Nat.{ℕ, _+_, _≤_}
 use lib.Dec.{leb}
 use lib.ListN.{length}
@@ -10,7 +10,7 @@ use Rattle.std.proofs.shelf.Tests.{le-leb, leb-true}
 use Rattle.refusal.specs.declared.reason.Refusal.{Refusal}
 use Rattle.refusal.specs.declared.reason.Refusal.the-variants.{TooManyRows}
 use Rattle.model.specs.Plan.{Table, height, rows-in}
-use Rattle.plan_format.specs.Reading.{Read, got, refused, repeat, ranged, header, setting, row, table, body}
+use Rattle.plan_format.specs.Reading.{got, refused, repeat, ranged, header, setting, row, table, body}
 use Rattle.plan_format.proofs.Exactly.{then-got, given-got, got-is}
 use Rattle.plan_reader.proofs.RepeatLaws.{repeat-length}
 

@@ -1,4 +1,3 @@
-ghost use mathlib.Core.Path.{_≡_};
 ghost use Prim.Native.Nat.{_^_, _<_, _≤_};
 ghost use Rattle.plan_format.specs.Reading.{header as headerOf, ranged as rangedOf, repeat};
 ghost use Rattle.plan_reader.specs.Lists.{listed};

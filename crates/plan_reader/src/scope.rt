@@ -1,4 +1,3 @@
-ghost use mathlib.Core.Path.{_≡_};
 ghost use Prim.Native.Nat.{_^_, _<_, _≤_};
 ghost use Rattle.plan_format.specs.Reading.{repeat, setting as settingOf};
 ghost use Rattle.plan_reader.specs.Lists.{listed};

@@ -1,6 +1,6 @@
 ghost use mathlib.Core.List.{List};
 ghost use mathlib.Core.Path.{_≡_};
-ghost use Prim.Native.Nat.{ℕ, _^_, _<_, _≤_};
+ghost use Prim.Native.Nat.{_^_, _<_, _≤_};
 ghost use Rattle.model.specs.Plan.{Table, rows-in};
 ghost use Rattle.plan_format.specs.Reading.{repeat, table as tableOf};
 ghost use Rattle.plan_reader.specs.Heads.{HeadOf, HeadOfTables};

@@ -1,8 +1,8 @@
-use mathlib.Core.Path.{_≡_, sym, _∙_}
+use mathlib.Core.Path.{_≡_, _∙_}
 use Rattle.std.proofs.shelf.Results.{made-weaker}
 use Rattle.std.specs.Of.String.{string-bytes}
 use Rattle.std.specs.declared.option.Option.the-variants.{Some, None}
-use Rattle.refusal.specs.Refusals.{number-of, place-of, words-of}
+use Rattle.refusal.specs.Refusals.{place-of}
 use Rattle.plan_report.specs.Report.{lines-of, refusal-text}
 use Rattle.plan_report.proofs.tell_refusal.Needs as need
 

@@ -1,17 +1,14 @@
 use native.Mathlib.Omega.{arith}
-use mathlib.Core.Path.{_≡_, refl, _∙_, sym, ap}
+use mathlib.Core.Path.{_≡_, _∙_, sym, ap}
 use mathlib.Core.Bool.{true, false}
-use Prim.Native.Nat.{ℕ, _*_}
+use Prim.Native.Nat.{_*_}
 use lib.ListN.{length}
-use Rattle.std.specs.declared.result.Result.the-variants.{Ok, Err}
-use Rattle.refusal.specs.declared.reason.Refusal.{Refusal}
-use Rattle.refusal.specs.declared.reason.Refusal.the-variants.{Unnamed, NotPadded}
+use Rattle.std.specs.declared.result.Result.the-variants.{Ok}
 use Rattle.model.specs.Plan.{Plan, sum, row-count, value-count}
 use Rattle.model.specs.Tests.{all-named}
 use Rattle.plan_format.specs.Bits.{bits}
 use Rattle.plan_format.specs.Reading.{padded}
 use Rattle.plan_reader.specs.Checking.{numbers-of, answer}
-use Rattle.plan_reader.specs.Lists.{listed}
 use Rattle.plan_reader.proofs.FileLaws.{marks-tell, read-unnamed, read-unpadded, read-got}
 use Rattle.plan_reader.proofs.Moves.{body-moves}
 use Rattle.plan_reader.proofs.checking.judge.Needs as need

@@ -2,11 +2,10 @@ use mathlib.Core.List.{List}
 use mathlib.Core.Path.{_≡_, refl, sym, _∙_, ap}
 use Prim.Native.Nat.{ℕ}
 use native.Mathlib.Omega.{arith}
-use lib.ListN.{length}
 use Rattle.std.proofs.shelf.Results.{err-from-errBy}
 use Rattle.model.specs.Plan.{Table}
 use Rattle.plan_format.specs.Bits.{bits}
-use Rattle.plan_format.specs.Reading.{Read, got, refused, header, ranged, repeat, table}
+use Rattle.plan_format.specs.Reading.{got, refused, ranged, repeat, table}
 use Rattle.plan_reader.specs.Lists.{listed}
 use Rattle.plan_reader.proofs.Moves.{header-moves, ranged-moves, ranged-within}
 use Rattle.plan_reader.proofs.RepeatLaws.{repeat-length}

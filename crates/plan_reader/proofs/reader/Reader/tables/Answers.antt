@@ -1,11 +1,11 @@
 use mathlib.Core.Bool.{_||_}
 use mathlib.Core.List.{List, [], _∷_, _++_}
 use mathlib.Core.Path.{_≡_, refl, sym, _∙_, ap}
-use Prim.Native.Nat.{ℕ, _+_, _≤_, _<_}
+use Prim.Native.Nat.{ℕ, _<_}
 use native.Mathlib.Omega.{arith}
 use lib.Dec.{eqb}
 use Rattle.std.proofs.shelf.Results.{err-from-errBy}
-use Rattle.model.specs.Plan.{Table, height, rows-in}
+use Rattle.model.specs.Plan.{Table}
 use Rattle.model.specs.Tests.{any, names}
 use Rattle.plan_format.specs.Bits.{bits}
 use Rattle.plan_format.proofs.Chains.{rows-push}

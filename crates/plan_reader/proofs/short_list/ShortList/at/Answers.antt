@@ -1,6 +1,5 @@
 use mathlib.Core.Path.{sym}
 use native.Mathlib.Omega.{arith}
-use lib.ListN.{length, take}
 use Rattle.std.proofs.shelf.Lists.{getD-take, getD-past, length-take-le}
 use Rattle.plan_reader.specs.Lists.{listed}
 use Rattle.plan_reader.proofs.short_list.ShortList.at.Needs as need
