@@ -4,5 +4,6 @@ pub mod Chains
 pub mod Header
 pub mod Tables
 pub mod Ending
+pub mod Places
 pub mod Whole
 pub mod Unique

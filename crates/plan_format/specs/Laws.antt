@@ -1,9 +1,11 @@
 -- The laws that tie the two: exactly the plan files are read, and what is read is what they spell.
 use mathlib.Core.List.{List}
 use mathlib.Core.Path.{_≡_}
-use Prim.Native.Nat.{ℕ, _<_}
+use Prim.Native.Nat.{ℕ, _*_, _≤_, _<_}
 use lib.ListN.{length}
+use Rattle.std.specs.declared.option.Option.the-variants.{Some}
 use Rattle.refusal.specs.declared.reason.Refusal.{Refusal}
+use Rattle.refusal.specs.Refusals.{number-of, place-of}
 use Rattle.model.specs.Plan.{Plan}
 use Rattle.model.specs.Rules.{Valid, Each}
 use Rattle.plan_format.specs.File.{FileOf, spell-plan}
@@ -26,6 +28,15 @@ Refuses-the-rest =
 -- a file is the file of at most one plan
 abbrev pub One-plan : Type 0
 One-plan = (file : List ℕ) (p r : Plan) → Valid p → Valid r → FileOf p file → FileOf r file → p ≡ r
+
+-- a refusal of a file: its number is 1 to 6, and its bit place lies in the file or at its end
+pub record Placed (file : List ℕ) (e : Refusal) : Type 0 where
+  pub some : 1 ≤ number-of e
+  pub few : number-of e ≤ 6
+  pub place : (p : ℕ) × (place-of e ≡ Some p) × (p ≤ 8 * length file)
+
+abbrev pub Refusals-placed : Type 0
+Refusals-placed = (file : List ℕ) (e : Refusal) → read file ≡ refused e → Placed file e
 
 -- bytes, as a file has them
 abbrev pub Bytes : List ℕ → Type 0

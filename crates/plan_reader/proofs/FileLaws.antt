@@ -15,6 +15,8 @@ use Rattle.model.specs.Tests.{any, names, all-below, all-named}
 use Rattle.plan_format.specs.Bits.{bits}
 use Rattle.plan_format.specs.File.{FileOf, spell-plan}
 use Rattle.plan_format.specs.Reading.{Read, got, refused, padded, body, read}
+use Rattle.plan_format.specs.Laws.{Placed}
+use Rattle.plan_format.proofs.Places.{refusals-placed}
 use Rattle.plan_format.proofs.Whole.{reads-exactly}
 use Rattle.plan_format.proofs.Unique.{refuses-the-rest}
 use Rattle.plan_reader.specs.Checking.{numbers-of, answer, HasNumbers, Judges}
@@ -58,7 +60,7 @@ answer-err {A} {B} f (refused v) w e = err-is v w e
     err-is v w e = cc
 
 pub judges : (file : List ℕ) (r : Result Numbers Refusal) → r ≡ answer numbers-of (read file) → Judges file r
-judges file r e = record { accepted = accepted; accepts = accepts; refused = none; refuses = refuses }
+judges file r e = record { accepted = accepted; accepts = accepts; refused = none; placed = placed; refuses = refuses }
   where
     accepted : (ns : Numbers) → r ≡ Ok ns → HasNumbers file ns
     accepted ns h =
@@ -73,6 +75,9 @@ judges file r e = record { accepted = accepted; accepts = accepts; refused = non
 
     none : (w : Refusal) → r ≡ Err w → (p : Plan) → Valid p → FileOf p file → ⊥
     none w h = refuses-the-rest file .0 w (answer-err numbers-of (read file) w (sym h ∙ e))
+
+    placed : (w : Refusal) → r ≡ Err w → Placed file w
+    placed w h = refusals-placed file w (answer-err numbers-of (read file) w (sym h ∙ e))
 
     refuses : ((p : Plan) → Valid p → FileOf p file → ⊥) → (w : Refusal) × (r ≡ Err w)
     refuses h = let k = refuses-the-rest file .1 h in (k .0, e ∙ ap (answer numbers-of) (k .1))

@@ -9,6 +9,7 @@ use Rattle.refusal.specs.declared.reason.Refusal.{Refusal}
 use Rattle.model.specs.Plan.{Plan, row-count, value-count}
 use Rattle.model.specs.Rules.{Valid}
 use Rattle.plan_format.specs.File.{FileOf}
+use Rattle.plan_format.specs.Laws.{Placed}
 use Rattle.plan_format.specs.Reading.{Read, got, refused}
 use Rattle.plan_reader.specs.declared.numbers.Numbers.{Numbers}
 
@@ -26,9 +27,10 @@ answer f (refused e) = Err e
 abbrev pub HasNumbers : List ℕ → Numbers → Type 0
 HasNumbers file ns = (p : Plan) × Valid p × FileOf p file × (ns ≡ numbers-of p)
 
--- the answer in the words of plan files: numbers exactly where the file has them, and a refusal exactly where it is no plan file
+-- the answer in the words of plan files: numbers exactly where the file has them, and a refusal, with its place, exactly where it is no plan file
 pub record Judges (file : List ℕ) (r : Result Numbers Refusal) : Type 0 where
   pub accepted : (ns : Numbers) → r ≡ Ok ns → HasNumbers file ns
   pub accepts : (ns : Numbers) → HasNumbers file ns → r ≡ Ok ns
   pub refused : (e : Refusal) → r ≡ Err e → (p : Plan) → Valid p → FileOf p file → ⊥
+  pub placed : (e : Refusal) → r ≡ Err e → Placed file e
   pub refuses : ((p : Plan) → Valid p → FileOf p file → ⊥) → (e : Refusal) × (r ≡ Err e)
