@@ -1,9 +1,11 @@
 pub mod BitLaws
 pub mod Exactly
+pub mod Parts
 pub mod Chains
 pub mod Header
 pub mod Tables
 pub mod Ending
 pub mod Places
+pub mod Cutting
 pub mod Whole
 pub mod Unique

@@ -2,7 +2,7 @@
 use mathlib.Core.List.{List}
 use mathlib.Core.Path.{_≡_}
 use Prim.Native.Nat.{ℕ, _*_, _≤_, _<_}
-use lib.ListN.{length}
+use lib.ListN.{length, take}
 use Rattle.std.specs.declared.option.Option.the-variants.{Some}
 use Rattle.refusal.specs.declared.reason.Refusal.{Refusal}
 use Rattle.refusal.specs.Refusals.{number-of, place-of}
@@ -37,6 +37,10 @@ pub record Placed (file : List ℕ) (e : Refusal) : Type 0 where
 
 abbrev pub Refusals-placed : Type 0
 Refusals-placed = (file : List ℕ) (e : Refusal) → read file ≡ refused e → Placed file e
+
+-- reading looks no further than the first 65,536 bytes
+abbrev pub Reads-no-further : Type 0
+Reads-no-further = (file : List ℕ) → read (take 65536 file) ≡ read file
 
 -- bytes, as a file has them
 abbrev pub Bytes : List ℕ → Type 0

@@ -1,6 +1,6 @@
 // The format of plan files: what a plan file is, how one is read, and the laws that tie the two.
 ghost use Rattle.plan_format.specs.Examples.{Examples};
-ghost use Rattle.plan_format.specs.Laws.{One-file, One-plan, Reads-exactly, Refusals-placed, Refuses-the-rest};
+ghost use Rattle.plan_format.specs.Laws.{One-file, One-plan, Reads-exactly, Reads-no-further, Refusals-placed, Refuses-the-rest};
 
 // The worked examples hold.
 pub fn examples_hold() -> u8
@@ -26,6 +26,13 @@ pub fn refuses_the_rest() -> u8
 // A file's refusal has a number from 1 to 6 and a bit place in the file.
 pub fn refusals_have_places() -> u8
     ensures { λ _. ⌜ Refusals-placed ⌝ }
+{
+    0
+}
+
+// The first 65,536 bytes of a file are enough.
+pub fn reads_no_further() -> u8
+    ensures { λ _. ⌜ Reads-no-further ⌝ }
 {
     0
 }

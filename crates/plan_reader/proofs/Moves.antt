@@ -14,8 +14,8 @@ use Rattle.model.specs.Plan.{Table, rows-in}
 use Rattle.model.specs.Tests.{below}
 use Rattle.plan_format.specs.Bits.{number-at}
 use Rattle.plan_format.specs.Reading.{Read, got, _then_, given, repeat, may-follow, number, ranged, number-below, header, setting, value, row, table, body}
-use Rattle.plan_format.proofs.Exactly.{then-got, given-got, got-at, got-is}
-use Rattle.plan_reader.proofs.RepeatLaws.{repeat-length}
+use Rattle.plan_format.proofs.Exactly.{then-got, given-got, got-at}
+use Rattle.plan_format.proofs.Parts.{ranged-within, repeat-length}
 
 abbrev pub Moves : {A : Type 0} → (ℕ → Read A) → ℕ → Type 0
 Moves {A} read w = (p : ℕ) (a : A) (q : ℕ) → read p ≡ got a q → q ≤ p + w
@@ -69,15 +69,6 @@ row-moves b counts scope before few p r q e =
 
 pub rows-move : (b counts scope : List ℕ) (n : ℕ) → length scope ≤ 32 → Moves (repeat (row b counts scope) n) (160 * n)
 rows-move b counts scope n few = repeat-moves (row b counts scope) 160 (λ before. row-moves b counts scope before few) n
-
--- a number in a range is in that range
-pub ranged-within : (b : List ℕ) (w lo hi p v q : ℕ) → ranged b w lo hi p ≡ got v q → (lo ≤ v) × (v ≤ hi)
-ranged-within b w lo hi p v q e =
-    let t = then-got (number b w p) (λ (v : ℕ) (q : ℕ). given (leb lo v && leb v hi) (OutOfRange p) (got v q)) v q e in
-    let g = given-got (leb lo (t .0) && leb (t .0) hi) (OutOfRange p) (got (t .0) (t .1)) v q (t .3) in
-    let a = and-parts (leb lo (t .0)) (leb (t .0) hi) (g .0) in
-    let i : t .0 ≡ v = got-is (t .0) v (t .1) q (g .1) in
-    (omega (arith, leb-true lo (t .0) (a .0), i), omega (arith, leb-true (t .0) hi (a .1), i))
 
 pub table-moves : (b counts : List ℕ) (before : List Table) → Moves (table b counts before) 82000
 table-moves b counts before p t q e =

@@ -10,7 +10,7 @@ use Rattle.std.proofs.shelf.Lists.{length-push}
 use Rattle.std.proofs.shelf.Tests.{cases-lt}
 use Rattle.refusal.specs.declared.reason.Refusal.{Refusal}
 use Rattle.plan_format.specs.Reading.{Read, got, refused, _then_, repeat}
-use Rattle.plan_format.proofs.Exactly.{then-got, got-is}
+use Rattle.plan_format.proofs.Parts.{repeat-length}
 
 module _ {A : Type 0} (one : List A → ℕ → Read A) where
   -- a refusal ends the readings, however many were to come
@@ -21,14 +21,6 @@ module _ {A : Type 0} (one : List A → ℕ → Read A) where
         | inl l ↦ rw (← stops n p q xs why e f m l)
         | inr l ↦ let i : m ≡ n = omega arith in rw (i, e, ← f)
       ]
-
-  pub repeat-length : (n p : ℕ) (xs : List A) (q : ℕ) → repeat one n p ≡ got xs q → length xs ≡ n
-  repeat-length zero p xs q e = ap length (sym (got-is [] xs p q e))
-  repeat-length (suc n) p xs q e =
-      let t = then-got (repeat one n p) (λ (xs : List A) (q : ℕ). _then_ (one xs q) (λ (x : A) (r : ℕ). got (xs ++ x ∷ []) r)) xs q e in
-      let u = then-got (one (t .0) (t .1)) (λ (x : A) (r : ℕ). got (t .0 ++ x ∷ []) r) xs q (t .3) in
-      let is : t .0 ++ u .0 ∷ [] ≡ xs = got-is (t .0 ++ u .0 ∷ []) xs (u .1) q (u .3) in
-      ap length (sym is) ∙ length-push (t .0) (u .0) ∙ add-one (length (t .0)) ∙ ap suc (repeat-length n p (t .0) (t .1) (t .2))
 
 -- n items are read, from the place p on up to q; the loop began with the file that it reads now
 pub record Sofar {A : Type 0} (one : List ℕ → List A → ℕ → Read A) (file now : List ℕ) (n p q : ℕ) (xs : List A) : Type 0 where

@@ -12,7 +12,7 @@ use Rattle.refusal.specs.declared.reason.Refusal.the-variants.{TooManyRows}
 use Rattle.model.specs.Plan.{Table, height, rows-in}
 use Rattle.plan_format.specs.Reading.{got, refused, repeat, ranged, header, setting, row, table, body}
 use Rattle.plan_format.proofs.Exactly.{then-got, given-got, got-is}
-use Rattle.plan_reader.proofs.RepeatLaws.{repeat-length}
+use Rattle.plan_format.proofs.Parts.{repeat-length}
 
 pub table-got : (b counts scope : List ℕ) (before : List Table) (rows : List (List ℕ)) (p w p1 n p2 k p3 q earlier : ℕ)
     → rows-in before ≡ earlier → n ≡ length counts → earlier + k ≤ 4096
