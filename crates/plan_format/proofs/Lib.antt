@@ -1,6 +1,7 @@
 pub mod BitLaws
 pub mod Exactly
 pub mod Parts
+pub mod Moves
 pub mod Chains
 pub mod Header
 pub mod Tables

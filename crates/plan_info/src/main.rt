@@ -6,7 +6,7 @@ use std::io;
 use std::io::ErrorKind;
 use std::io::Read;
 
-// No more of the file is read. A plan file is shorter, so a longer file is none.
+// No more of the file is read: `plan_format::reads_no_further` says that nothing depends on it.
 const MOST: u64 = 65_536;
 
 // The first bytes of plan.bin; none where there is no such file.

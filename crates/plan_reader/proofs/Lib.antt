@@ -1,7 +1,6 @@
 pub mod FileLaws
 pub mod Listed
 pub mod MarkLaws
-pub mod Moves
 pub mod PaddingLaws
 pub mod RepeatLaws
 pub mod RowLaws

@@ -6,10 +6,9 @@ use Prim.Native.Nat.{ℕ, zero, suc, _+_, _<_}
 use native.Mathlib.Omega.{arith}
 use native.Mathlib.Numerals.{add-one}
 use lib.ListN.{length}
-use Rattle.std.proofs.shelf.Lists.{length-push}
 use Rattle.std.proofs.shelf.Tests.{cases-lt}
 use Rattle.refusal.specs.declared.reason.Refusal.{Refusal}
-use Rattle.plan_format.specs.Reading.{Read, got, refused, _then_, repeat}
+use Rattle.plan_format.specs.Reading.{Read, got, refused, repeat}
 use Rattle.plan_format.proofs.Parts.{repeat-length}
 
 module _ {A : Type 0} (one : List A → ℕ → Read A) where

@@ -10,7 +10,7 @@ use Rattle.plan_format.specs.Bits.{bits}
 use Rattle.plan_format.specs.Reading.{padded}
 use Rattle.plan_reader.specs.Checking.{numbers-of, answer}
 use Rattle.plan_reader.proofs.FileLaws.{marks-tell, read-unnamed, read-unpadded, read-got}
-use Rattle.plan_reader.proofs.Moves.{body-moves}
+use Rattle.plan_format.proofs.Moves.{body-moves}
 use Rattle.plan_reader.proofs.checking.judge.Needs as need
 
 pub returns-then-not-has-all : need.returns-then-not-has-all

@@ -7,7 +7,7 @@ use Rattle.model.specs.Plan.{Table}
 use Rattle.plan_format.specs.Bits.{bits}
 use Rattle.plan_format.specs.Reading.{got, refused, ranged, repeat, table}
 use Rattle.plan_reader.specs.Lists.{listed}
-use Rattle.plan_reader.proofs.Moves.{header-moves, ranged-moves}
+use Rattle.plan_format.proofs.Moves.{header-moves, ranged-moves}
 use Rattle.plan_format.proofs.Parts.{ranged-within, repeat-length}
 use Rattle.plan_reader.proofs.TableLaws.{body-stops-header, body-stops-count, body-stops-tables, body-got}
 use Rattle.plan_reader.proofs.reader.Reader.body.Needs as need

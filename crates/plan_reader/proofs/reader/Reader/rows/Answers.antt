@@ -7,7 +7,7 @@ use Rattle.plan_format.specs.Bits.{bits}
 use Rattle.plan_format.proofs.Chains.{follow-last}
 use Rattle.plan_reader.specs.Lists.{listed}
 use Rattle.plan_reader.proofs.Listed.{listed-few}
-use Rattle.plan_reader.proofs.Moves.{rows-move}
+use Rattle.plan_format.proofs.Moves.{rows-move}
 use Rattle.plan_reader.proofs.RepeatLaws.{sofar-none, sofar-more, sofar-stops, sofar-all}
 use Rattle.plan_reader.proofs.reader.Reader.rows.Needs as need
 
@@ -20,7 +20,7 @@ row-requires c κs =
     let counts = listed (c .args .counts .now) in
     let scope = listed (c .args .scope .now) in
     let i = c .loop .inv in
-    omega (arith, rows-move (bits file) counts scope (c .loop .counter) (listed-few (c .args .scope .now)) (c .args .self .now .place) (i .0) (c .loop .self .place) (i .1 .items))
+    omega (arith, rows-move (bits file) counts scope 32 (c .loop .counter) (listed-few (c .args .scope .now)) (c .args .self .now .place) (i .0) (c .loop .self .place) (i .1 .items))
 
 pub returns-in-Break-row : need.returns-in-Break-row
 returns-in-Break-row c =

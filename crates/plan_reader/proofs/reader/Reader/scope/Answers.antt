@@ -3,7 +3,7 @@ use native.Mathlib.Omega.{arith}
 use Rattle.std.proofs.shelf.Results.{err-from-errBy}
 use Rattle.plan_format.specs.Bits.{bits}
 use Rattle.plan_reader.specs.Lists.{listed}
-use Rattle.plan_reader.proofs.Moves.{scope-moves}
+use Rattle.plan_format.proofs.Moves.{scope-moves}
 use Rattle.plan_reader.proofs.RepeatLaws.{sofar-none, sofar-more, sofar-stops, sofar-all, sofar-length}
 use Rattle.plan_reader.proofs.reader.Reader.scope.Needs as need
 

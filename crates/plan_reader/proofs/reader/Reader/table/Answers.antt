@@ -6,7 +6,7 @@ use lib.ListN.{length}
 use Rattle.plan_format.specs.Bits.{bits}
 use Rattle.plan_format.specs.Reading.{got, repeat, ranged, setting, row}
 use Rattle.plan_reader.specs.Lists.{listed}
-use Rattle.plan_reader.proofs.Moves.{ranged-moves, scope-moves}
+use Rattle.plan_format.proofs.Moves.{ranged-moves, scope-moves}
 use Rattle.plan_format.proofs.Parts.{ranged-within, repeat-length}
 use Rattle.plan_reader.proofs.TableLaws.{table-got}
 use Rattle.plan_reader.proofs.reader.Reader.table.Needs as need
@@ -15,7 +15,7 @@ use Rattle.plan_reader.proofs.reader.Reader.table.Needs as need
 scope-ends : (file now : List ℕ) (n p w p1 : ℕ) (scope : List ℕ) (p2 : ℕ)
     → got w p1 ≡ ranged (bits file) 4 1 8 p → got scope p2 ≡ repeat (setting (bits now) n) w p1 → p2 ≤ p + 44
 scope-ends file now n p w p1 scope p2 e f =
-    omega (arith, ranged-moves (bits file) 4 1 8 p w p1 (sym e) (bits file) 4 1 8 p w p1 (sym e) .1, scope-moves (bits now) n w p1 scope p2 (sym f))
+    omega (arith, ranged-moves (bits file) 4 1 8 p w p1 (sym e), ranged-within (bits file) 4 1 8 p w p1 (sym e) .1, scope-moves (bits now) n w p1 scope p2 (sym f))
 
 pub ranged-requires-2 : need.ranged-requires-2
 ranged-requires-2 c κs =

@@ -13,7 +13,7 @@ use Rattle.plan_reader.specs.Lists.{listed}
 use Rattle.plan_reader.specs.Marks.{marked, Marks}
 use Rattle.plan_reader.specs.declared.named.Named.{Named}
 use Rattle.plan_reader.proofs.MarkLaws.{any-push}
-use Rattle.plan_reader.proofs.Moves.{tables-move}
+use Rattle.plan_format.proofs.Moves.{tables-move}
 use Rattle.plan_reader.proofs.RepeatLaws.{sofar-none, sofar-more, sofar-stops, sofar-all}
 use Rattle.plan_reader.proofs.TableLaws.{table-few}
 use Rattle.plan_reader.proofs.reader.Reader.tables.Needs as need

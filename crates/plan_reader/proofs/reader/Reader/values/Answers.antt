@@ -8,7 +8,7 @@ use Rattle.plan_format.specs.Bits.{bits}
 use Rattle.plan_format.specs.Reading.{number-below}
 use Rattle.plan_reader.specs.Lists.{listed}
 use Rattle.plan_reader.proofs.Listed.{listed-few}
-use Rattle.plan_reader.proofs.Moves.{values-move}
+use Rattle.plan_format.proofs.Moves.{values-move}
 use Rattle.plan_reader.proofs.RepeatLaws.{Sofar, sofar-none, sofar-more, sofar-stops, sofar-all, sofar-length}
 use Rattle.plan_reader.proofs.reader.Reader.values.Choices.{one}
 use Rattle.plan_reader.proofs.reader.Reader.values.Needs as need

@@ -7,15 +7,14 @@ use native.Mathlib.Omega.{arith}
 use native.Mathlib.Nat.{mul-suc}
 use lib.Dec.{leb, ltb}
 use lib.ListN.{length, getD}
-use Rattle.std.proofs.shelf.Tests.{leb-true, and-parts}
 use Rattle.refusal.specs.declared.reason.Refusal.{Refusal}
 use Rattle.refusal.specs.declared.reason.Refusal.the-variants.{CutShort, OutOfRange, NotAscending, TooManyRows}
 use Rattle.model.specs.Plan.{Table, rows-in}
 use Rattle.model.specs.Tests.{below}
 use Rattle.plan_format.specs.Bits.{number-at}
 use Rattle.plan_format.specs.Reading.{Read, got, _then_, given, repeat, may-follow, number, ranged, number-below, header, setting, value, row, table, body}
 use Rattle.plan_format.proofs.Exactly.{then-got, given-got, got-at}
 use Rattle.plan_format.proofs.Parts.{ranged-within, repeat-length}
 
 abbrev pub Moves : {A : Type 0} → (ℕ → Read A) → ℕ → Type 0
 Moves {A} read w = (p : ℕ) (a : A) (q : ℕ) → read p ≡ got a q → q ≤ p + w
@@ -33,7 +32,7 @@ tested-moves {A} read test why w x p a q e =
     let g = given-got (test (t .0)) (why p) (got (t .0) (t .1)) a q (t .3) in
     x p a q (t .2 ∙ g .1)
 
-repeat-moves : {A : Type 0} (one : List A → ℕ → Read A) (w : ℕ) → ((xs : List A) → Moves (one xs) w) → (n : ℕ) → Moves (repeat one n) (w * n)
+pub repeat-moves : {A : Type 0} (one : List A → ℕ → Read A) (w : ℕ) → ((xs : List A) → Moves (one xs) w) → (n : ℕ) → Moves (repeat one n) (w * n)
 repeat-moves one w x zero p a q e = omega (arith, got-at [] a p q e)
 repeat-moves {A} one w x (suc n) p a q e =
     let t = then-got (repeat one n p) (λ (xs : List A) (q : ℕ). _then_ (one xs q) (λ (x : A) (r : ℕ). got (xs ++ x ∷ []) r)) a q e in
@@ -61,16 +60,16 @@ scope-moves b n = repeat-moves (setting b n) 5 (setting-moves b n)
 pub values-move : (b counts scope : List ℕ) (n : ℕ) → Moves (repeat (value b counts scope) n) (5 * n)
 values-move b counts scope = repeat-moves (value b counts scope) 5 (λ before. below-moves b (getD counts (getD scope (length before) 0) 0))
 
--- a row of a table that names at most 32 settings
-pub row-moves : (b counts scope : List ℕ) (before : List (List ℕ)) → length scope ≤ 32 → Moves (row b counts scope before) 160
-row-moves b counts scope before few p r q e =
+-- a row of a table that names at most w settings
+pub row-moves : (b counts scope : List ℕ) (before : List (List ℕ)) (w : ℕ) → length scope ≤ w → Moves (row b counts scope before) (5 * w)
+row-moves b counts scope before w few p r q e =
     let m = tested-moves (repeat (value b counts scope) (length scope)) (may-follow below before) NotAscending (5 * length scope) (values-move b counts scope (length scope)) p r q e in
     omega (arith, m)
 
-pub rows-move : (b counts scope : List ℕ) (n : ℕ) → length scope ≤ 32 → Moves (repeat (row b counts scope) n) (160 * n)
-rows-move b counts scope n few = repeat-moves (row b counts scope) 160 (λ before. row-moves b counts scope before few) n
+pub rows-move : (b counts scope : List ℕ) (w n : ℕ) → length scope ≤ w → Moves (repeat (row b counts scope) n) (5 * w * n)
+rows-move b counts scope w n few = repeat-moves (row b counts scope) (5 * w) (λ before. row-moves b counts scope before w few) n
 
-pub table-moves : (b counts : List ℕ) (before : List Table) → Moves (table b counts before) 82000
+pub table-moves : (b counts : List ℕ) (before : List Table) → Moves (table b counts before) 20534
 table-moves b counts before p t q e =
     let t1 = then-got (ranged b 4 1 8 p) _ t q e in
     let t2 = then-got (repeat (setting b (length counts)) (t1 .0) (t1 .1)) _ t q (t1 .3) in
@@ -83,12 +82,12 @@ table-moves b counts before p t q e =
     let m1 = ranged-moves b 4 1 8 p (t1 .0) (t1 .1) (t1 .2) in
     let m2 = scope-moves b (length counts) (t1 .0) (t1 .1) (t2 .0) (t2 .1) (t2 .2) in
     let m3 = ranged-moves b 10 0 512 (t2 .1) (t3 .0) (t3 .1) (t3 .2) in
-    let m4 = rows-move b counts (t2 .0) (t3 .0) (omega (arith, l, w)) (t3 .1) (t4 .0) (t4 .1) (t4 .2) in
+    let m4 = rows-move b counts (t2 .0) 8 (t3 .0) (omega (arith, l, w)) (t3 .1) (t4 .0) (t4 .1) (t4 .2) in
     let end = got-at (record { scope = t2 .0; rows = t4 .0 }) t (t4 .1) q (t4 .3) in
     omega (arith, w, n, m1, m2, m3, m4, end)
 
-pub tables-move : (b counts : List ℕ) (n : ℕ) → Moves (repeat (table b counts) n) (82000 * n)
-tables-move b counts = repeat-moves (table b counts) 82000 (table-moves b counts)
+pub tables-move : (b counts : List ℕ) (n : ℕ) → Moves (repeat (table b counts) n) (20534 * n)
+tables-move b counts = repeat-moves (table b counts) 20534 (table-moves b counts)
 
 pub header-moves : (b : List ℕ) → Moves (header b) 206
 header-moves b p counts q e =
@@ -100,7 +99,7 @@ header-moves b p counts q e =
     let m3 = counts-move b (t2 .0) (t2 .1) counts q (t2 .3) in
     omega (arith, n, m1, m2, m3)
 
-pub body-moves : (b : List ℕ) → Moves (body b) 1400000
+pub body-moves : (b : List ℕ) → Moves (body b) 328755
 body-moves b p plan q e =
     let t1 = then-got (header b p) _ plan q e in
     let t2 = then-got (ranged b 5 1 16 (t1 .1)) _ plan q (t1 .3) in
