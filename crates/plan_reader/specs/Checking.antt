@@ -32,5 +32,5 @@ pub record Judges (file : List ℕ) (r : Result Numbers Refusal) : Type 0 where
   pub accepted : (ns : Numbers) → r ≡ Ok ns → HasNumbers file ns
   pub accepts : (ns : Numbers) → HasNumbers file ns → r ≡ Ok ns
   pub refused : (e : Refusal) → r ≡ Err e → (p : Plan) → Valid p → FileOf p file → ⊥
-  pub placed : (e : Refusal) → r ≡ Err e → Placed file e
   pub refuses : ((p : Plan) → Valid p → FileOf p file → ⊥) → (e : Refusal) × (r ≡ Err e)
+  pub placed : (e : Refusal) → r ≡ Err e → Placed file e

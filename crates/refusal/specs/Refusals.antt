@@ -1,4 +1,4 @@
--- What is told of each refusal: its number and, for those of a plan file, the bit place.
+-- What is told of each refusal: its number, its bit place where it is of a plan file, and words.
 use mathlib.Core.List.{List}
 use lib.Chars.{codes}
 use Prim.Native.Nat.{ℕ}
@@ -7,6 +7,7 @@ use Rattle.std.specs.declared.option.Option.the-variants.{Some, None}
 use Rattle.refusal.specs.declared.reason.Refusal.{Refusal}
 use Rattle.refusal.specs.declared.reason.Refusal.the-variants.{CutShort, OutOfRange, NotAscending, TooManyRows, Unnamed, NotPadded, NotInPlan, NoRoom, AboveMost, OtherRolls, NoSaveFree, NoSaveKept, NotNow, NoCommand}
 
+-- the number by which programs know it
 abbrev pub number-of : Refusal → ℕ
 number-of (CutShort p) = 1
 number-of (OutOfRange p) = 2
@@ -23,6 +24,7 @@ number-of NoSaveKept = 12
 number-of NotNow = 13
 number-of NoCommand = 14
 
+-- the bit place in the plan file, counted from 0
 abbrev pub place-of : Refusal → Option ℕ
 place-of (CutShort p) = Some p
 place-of (OutOfRange p) = Some p
@@ -39,6 +41,7 @@ place-of NoSaveKept = None
 place-of NotNow = None
 place-of NoCommand = None
 
+-- one line for people: what is wrong, at the bit place where there is one
 abbrev pub words-of : Refusal → List ℕ
 words-of (CutShort p) = codes "the file ends inside the number that begins here"
 words-of (OutOfRange p) = codes "the number here is out of its range: the edition is not 1, or a count, a width, a setting number or a value is too low or too high"
