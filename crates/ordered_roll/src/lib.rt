@@ -1,5 +1,7 @@
 // The ordered kind of roll: the standing numbers are listed in front of the others (a sparse set), and a save
 // notes only how many stood.
+#![tactic(auto)]
+
 ghost use Rattle.ordered_roll.specs.Ordered.{ListedOnce};
 
 mod lists;

@@ -1,5 +1,7 @@
 // The packed kind of roll: one bit for each number, in 64-bit words, and for its saves the words overwritten
 // since each of them (a reversible bitset with a trail).
+#![tactic(auto)]
+
 ghost use Rattle.packed_roll.specs.Packed.{NoBitBeyond};
 
 mod bits;

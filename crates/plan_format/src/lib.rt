@@ -1,4 +1,6 @@
 // The format of plan files: what a plan file is, how one is read, and the laws that tie the two.
+#![tactic(auto)]
+
 ghost use Rattle.plan_format.specs.Examples.{Examples};
 ghost use Rattle.plan_format.specs.Laws.{OneFile, OnePlan, ReadsExactly, ReadsNoFurther, RefusalsPlaced, RefusesTheRest};
 

@@ -1,5 +1,7 @@
 // Tells what the file plan.bin in the current folder is. What it prints is the text of
 // `plan_report::report`, which is proved; reading the file and printing are only tested.
+#![tactic(auto)]
+
 use plan_report::report;
 use std::fs::File;
 use std::io;

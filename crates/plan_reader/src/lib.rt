@@ -1,4 +1,6 @@
 // Reading plan files: whether a file is a plan file, and how large its plan is.
+#![tactic(auto)]
+
 mod body;
 mod checking;
 mod header;

@@ -1,4 +1,6 @@
 // What is told of a file: that it is a plan file and how large its plan is, or why it is none.
+#![tactic(auto)]
+
 ghost use Rattle.std.specs.Prelude.{◌≡◌, IfOk, string_bytes};
 ghost use Rattle.plan_format.specs.Reading.{read};
 ghost use Rattle.plan_report.specs.Report.{numbers_text, refusal_text, report_text};

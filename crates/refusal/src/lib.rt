@@ -1,4 +1,6 @@
 // Why a call is declined.
+#![tactic(auto)]
+
 mod reason;
 
 pub use reason::Refusal;

@@ -1,5 +1,7 @@
 // Rolls: which numbers below a size stand, with saves to go back to. A roll is an interface, the trait
 // `Roll`; its kinds are in crates of their own.
+#![tactic(auto)]
+
 ghost use Rattle.roll.specs.Examples.{Examples};
 ghost use Rattle.roll.specs.Laws.{BackUndoes, CountsStanding, FirstIsLowest, RefusalsNumbered, StrikesExactly};
 

@@ -1,4 +1,6 @@
 // Tests of both kinds of roll: the same test functions, generic over the kind.
+#![tactic(auto)]
+
 #[cfg(test)]
 mod calls;
 #[cfg(test)]
