@@ -15,8 +15,8 @@ bounds-olds-from c = let w = (lowest_of c.loop-left.left c.loop-left.invariant.f
 pub bounds-bits-w : goal.bounds-bits-w
 bounds-bits-w c = (lowest_of c.loop-left.left c.loop-left.invariant.fits c.loop-left-test.true).within
 
-pub overflow-shl-left : goal.overflow-shl-left
-overflow-shl-left c = (lowest_of c.loop-left.left c.loop-left.invariant.fits c.loop-left-test.true).within
+pub overflow_shl-left : goal.overflow_shl-left
+overflow_shl-left c = (lowest_of c.loop-left.left c.loop-left.invariant.fits c.loop-left-test.true).within
 
 pub loop-left-preserved : goal.loop-left-preserved
 loop-left-preserved c =

@@ -7,8 +7,8 @@ use Rattle.roll.proofs.generic.strike_all.Goals as goal
 use Rattle.roll.proofs.generic.strike_all.Goals.{then-strike, else-strike}
 
 -- no more stood than are below the size
-pub overflow-add-stood : goal.overflow-add-stood
-overflow-add-stood g c =
+pub overflow_add-stood : goal.overflow_add-stood
+overflow_add-stood g c =
     let m0 : Meaning = g.R.Roll.meaning c.args.roll.now in
     let s = standing_most m0 in
     let f = (g.met.R.Roll.sound c.args.roll.now).fits in

@@ -9,7 +9,7 @@ pub loop-w-preserved : goal.loop-w-preserved
 loop-w-preserved c =
     let n : ℕ = c.args.n in
     let w : ℕ = c.loop-w.w in
-    let r : c.min-rest.result ≡ min (n - w * 64) 64 = c.min-rest.ensures ∙ ap (λ x. min x 64) c.saturating-sub.ensures in
+    let r : c.min-rest.result ≡ min (n - w * 64) 64 = c.min-rest.ensures ∙ ap (λ x. min x 64) c.saturating_sub.ensures in
     let l : w < length c.loop-w.self.bits = let e = c.loop-w.invariant.0 in let t = c.loop-w-test.true in omega arith in
     let v : c.if-rest-eq64.self ≡ full n w
     = elim c.if-rest-eq64.branch [

@@ -3,4 +3,4 @@ use Rattle.packed_roll.proofs.words.Words.has.Goals as goal
 
 pub returns : goal.returns
 unfolding mark
-returns c = c.has-bit.ensures
+returns c = c.has_bit.ensures

@@ -15,17 +15,17 @@ ranged-requires c =
     let m = counts_move (bits file) c.loop.counter c.args.self.now.place (listed c.loop.counts) c.loop.self.place c.loop.invariant.items in
     (omega arith, omega (arith, m))
 
-pub returns-in-err-count : goal.returns-in-err-count
-returns-in-err-count c =
-    let h = c.in-err-count.ensures in
-    let x = err_from_is_err_and c.from-residual.result c.from-residual.ensures.1 in
+pub returns-in_err-count : goal.returns-in_err-count
+returns-in_err-count c =
+    let h = c.in_err-count.ensures in
+    let x = err_from_is_err_and c.from_residual.result c.from_residual.ensures.1 in
     rw (x.1, x.2) (record { reads = sofar_stops c.loop.invariant c.args.n (omega arith) h.reads; same = h.same ∙ c.loop.invariant.same })
 
 pub push-requires : goal.push-requires
 push-requires c = omega (arith, sofar_length c.loop.invariant)
 
 pub loop-preserved : goal.loop-preserved
-loop-preserved c = let h = c.in-ok-count.ensures in sofar_more c.loop.invariant h.reads h.same c.push.ensures
+loop-preserved c = let h = c.in_ok-count.ensures in sofar_more c.loop.invariant h.reads h.same c.push.ensures
 
 pub returns : goal.returns
 returns c = record { reads = sofar_all c.loop.invariant c.args.n (omega arith); same = c.loop.invariant.same }

@@ -16,13 +16,13 @@ room file p i v e h =
     let k : 2 ^ i * 2 ≤ 2 ^ 16 = rw pow-suc at m in
     omega (arith, number_at-below (bits file) (bits_below file) p i)
 
-pub overflow-mul-value : goal.overflow-mul-value
-overflow-mul-value c =
+pub overflow_mul-value : goal.overflow_mul-value
+overflow_mul-value c =
     let file = c.args.self.now.file.now in
     omega (arith, room file c.args.self.now.place c.loop-i.i c.loop-i.value c.loop-i.invariant (omega arith))
 
-pub overflow-add-value : goal.overflow-add-value
-overflow-add-value c =
+pub overflow_add-value : goal.overflow_add-value
+overflow_add-value c =
     let file = c.args.self.now.file.now in
     let b = bits_below file (c.args.self.now.place + c.loop-i.i) in
     omega (arith, room file c.args.self.now.place c.loop-i.i c.loop-i.value c.loop-i.invariant (omega arith))

@@ -20,18 +20,18 @@ row-requires c =
     let i = c.loop.invariant in
     omega (arith, rows_move (bits file) counts scope 32 c.loop.counter (listed_few c.args.scope.now) c.args.self.now.place i.0 c.loop.self.place i.1.items)
 
-pub returns-in-err-row : goal.returns-in-err-row
-returns-in-err-row c =
+pub returns-in_err-row : goal.returns-in_err-row
+returns-in_err-row c =
     let i = c.loop.invariant in
-    let h = c.in-err-row.ensures i.0 i.2 in
-    let x = err_from_is_err_and c.from-residual.result c.from-residual.ensures.1 in
+    let h = c.in_err-row.ensures i.0 i.2 in
+    let x = err_from_is_err_and c.from_residual.result c.from_residual.ensures.1 in
     rw (x.1, x.2) (record { reads = sym (sofar_stops i.1 c.args.count (omega arith) h.reads); same = h.same ∙ i.1.same })
 
 pub loop-preserved : goal.loop-preserved
 loop-preserved c =
     let i = c.loop.invariant in
-    let row = listed c.in-ok-row.row in
-    let h = c.in-ok-row.ensures i.0 i.2 in
+    let row = listed c.in_ok-row.row in
+    let h = c.in_ok-row.ensures i.0 i.2 in
     (i.0 ++ row ∷ [], sofar_more i.1 h.reads h.same refl, follow_last below i.0 row)
 
 pub returns : goal.returns

@@ -15,17 +15,17 @@ setting-requires c =
     let m = scope_moves (bits file) c.args.n c.loop.counter c.args.self.now.place (listed c.loop.scope) c.loop.self.place c.loop.invariant.items in
     omega (arith, m)
 
-pub returns-in-err-setting : goal.returns-in-err-setting
-returns-in-err-setting c =
-    let h = c.in-err-setting.ensures in
-    let x = err_from_is_err_and c.from-residual.result c.from-residual.ensures.1 in
+pub returns-in_err-setting : goal.returns-in_err-setting
+returns-in_err-setting c =
+    let h = c.in_err-setting.ensures in
+    let x = err_from_is_err_and c.from_residual.result c.from_residual.ensures.1 in
     rw (x.1, x.2) (record { reads = sofar_stops c.loop.invariant c.args.width (omega arith) h.reads; same = h.same ∙ c.loop.invariant.same })
 
 pub push-requires : goal.push-requires
 push-requires c = omega (arith, sofar_length c.loop.invariant)
 
 pub loop-preserved : goal.loop-preserved
-loop-preserved c = let h = c.in-ok-setting.ensures in sofar_more c.loop.invariant h.reads h.same c.push.ensures
+loop-preserved c = let h = c.in_ok-setting.ensures in sofar_more c.loop.invariant h.reads h.same c.push.ensures
 
 pub returns : goal.returns
 returns c = record { reads = sofar_all c.loop.invariant c.args.width (omega arith); same = c.loop.invariant.same }

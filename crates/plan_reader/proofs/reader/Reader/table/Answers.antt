@@ -16,37 +16,37 @@ scope_ends file now n p w p1 scope p2 e f =
 pub ranged-requires-2 : goal.ranged-requires-2
 ranged-requires-2 c =
     let s =
-    scope_ends c.args.self.now.file.now c.ranged.new.self.file.now c.len.result c.args.self.now.place c.in-ok-width.width
-    c.ranged.new.self.place (listed c.in-ok-scope.scope) c.scope.new.self.place c.in-ok-width.ensures.reads c.in-ok-scope.ensures.reads in
+    scope_ends c.args.self.now.file.now c.ranged.new.self.file.now c.len.result c.args.self.now.place c.in_ok-width.width
+    c.ranged.new.self.place (listed c.in_ok-scope.scope) c.scope.new.self.place c.in_ok-width.ensures.reads c.in_ok-scope.ensures.reads in
     (omega arith, omega (arith, s))
 
 pub rows-requires : goal.rows-requires
 rows-requires c =
     let s =
-    scope_ends c.args.self.now.file.now c.ranged.new.self.file.now c.len.result c.args.self.now.place c.in-ok-width.width
-    c.ranged.new.self.place (listed c.in-ok-scope.scope) c.scope.new.self.place c.in-ok-width.ensures.reads c.in-ok-scope.ensures.reads in
+    scope_ends c.args.self.now.file.now c.ranged.new.self.file.now c.len.result c.args.self.now.place c.in_ok-width.width
+    c.ranged.new.self.place (listed c.in_ok-scope.scope) c.scope.new.self.place c.in_ok-width.ensures.reads c.in_ok-scope.ensures.reads in
     let b = bits c.scope.new.self.file.now in
     let p = c.scope.new.self.place in
-    let k = c.in-ok-rows.rows in
+    let k = c.in_ok-rows.rows in
     let q = c.ranged-2.new.self.place in
-    let e : ranged b 10 0 512 p ≡ got k q = sym c.in-ok-rows.ensures.reads in
+    let e : ranged b 10 0 512 p ≡ got k q = sym c.in_ok-rows.ensures.reads in
     ((ranged_within b 10 0 512 p k q e).1, omega (arith, s, ranged_moves b 10 0 512 p k q e))
 
 pub returns : goal.returns
 returns c =
     let file = c.args.self.now.file.now in
     let counts = listed c.args.counts.now in
-    let scope = listed c.in-ok-scope.scope in
-    let w = c.in-ok-width.width in
-    let k = c.in-ok-rows.rows in
+    let scope = listed c.in_ok-scope.scope in
+    let w = c.in_ok-width.width in
+    let k = c.in_ok-rows.rows in
     let n = c.len.result in
     let p1 = c.ranged.new.self.place in
     let p2 = c.scope.new.self.place in
     let p3 = c.ranged-2.new.self.place in
-    let h1 = c.in-ok-width.ensures in
-    let h2 = c.in-ok-scope.ensures in
-    let h3 = c.in-ok-rows.ensures in
-    let h4 = c.in-ok-rows-2.ensures in
+    let h1 = c.in_ok-width.ensures in
+    let h2 = c.in_ok-scope.ensures in
+    let h3 = c.in_ok-rows.ensures in
+    let h4 = c.in_ok-rows-2.ensures in
     let s2 : c.scope.new.self.file.now ≡ file = h2.same ∙ h1.same in
     let s3 : c.ranged-2.new.self.file.now ≡ file = h3.same ∙ s2 in
     let e2 : got scope p2 ≡ repeat (setting (bits file) n) w p1 = h2.reads ∙ ap (λ (f : List ℕ). repeat (setting (bits f) n) w p1) h1.same in

@@ -29,17 +29,17 @@ table-requires c =
     let m = tables_move b (listed c.args.counts.now) c.loop.counter c.args.self.now.place i.0 c.loop.self.place i.1.items in
     (i.4, omega (arith, m))
 
-pub returns-in-err-table : goal.returns-in-err-table
-returns-in-err-table c =
+pub returns-in_err-table : goal.returns-in_err-table
+returns-in_err-table c =
     let i = c.loop.invariant in
-    let h = c.in-err-table.ensures i.0 (sym i.3) in
-    let x = err_from_is_err_and c.from-residual.result c.from-residual.ensures.1 in
+    let h = c.in_err-table.ensures i.0 (sym i.3) in
+    let x = err_from_is_err_and c.from_residual.result c.from_residual.ensures.1 in
     rw (x.1, x.2) (record { reads = sym (sofar_stops i.1 c.args.count (omega arith) (sym h.reads)); same = h.same ∙ i.1.same })
 
-pub overflow-add-rows : goal.overflow-add-rows
-overflow-add-rows c =
+pub overflow_add-rows : goal.overflow_add-rows
+overflow_add-rows c =
     let i = c.loop.invariant in
-    let r = (c.in-ok-table.ensures i.0 (sym i.3)).reads in
+    let r = (c.in_ok-table.ensures i.0 (sym i.3)).reads in
     let few = table_few (bits c.loop.self.file.now) (listed c.args.counts.now) i.0 c.loop.self.place r.0 c.table.new.self.place r.1 in
     omega (arith, few, i.3, r.2.rows)
 
@@ -47,13 +47,13 @@ pub loop-preserved : goal.loop-preserved
 loop-preserved c =
     let i = c.loop.invariant in
     let ts = i.0 in
-    let h = c.in-ok-table.ensures ts (sym i.3) in
+    let h = c.in_ok-table.ensures ts (sym i.3) in
     let r = h.reads in
     let t = r.0 in
     let few = table_few (bits c.loop.self.file.now) (listed c.args.counts.now) ts c.loop.self.place t c.table.new.self.place r.1 in (
       ts ++ t ∷ [],
       sofar_more i.1 (sym r.1) h.same refl,
-      marks_more c.loop.named c.add.new.self ts t c.as-slice.result.now (listed c.in-ok-table.table.scope) i.2 c.as-slice.ensures r.2.scope c.add.ensures,
+      marks_more c.loop.named c.add.new.self ts t c.as_slice.result.now (listed c.in_ok-table.table.scope) i.2 c.as_slice.ensures r.2.scope c.add.ensures,
       omega (arith, rows_push ts t, i.3, r.2.rows),
       omega (arith, few, i.3, r.2.rows),
     )

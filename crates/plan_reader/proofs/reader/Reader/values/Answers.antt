@@ -26,10 +26,10 @@ below-requires c =
     let m = values_move (bits file) counts scope c.loop-k.k c.args.self.now.place (listed c.loop-k.values) c.loop-k.self.place c.loop-k.invariant.items in
     omega (arith, m, listed_few c.args.scope.now, c.len-k-end.ensures)
 
-pub returns-in-err-value : goal.returns-in-err-value
-returns-in-err-value c =
-    let h = c.in-err-value.ensures in
-    let x = err_from_is_err_and c.from-residual.result c.from-residual.ensures.1 in
+pub returns-in_err-value : goal.returns-in_err-value
+returns-in_err-value c =
+    let h = c.in_err-value.ensures in
+    let x = err_from_is_err_and c.from_residual.result c.from_residual.ensures.1 in
     let r = h.reads ∙ limit (listed c.args.counts.now) (listed c.args.scope.now) c.loop-k.invariant c.at.ensures c.at-count.ensures in
     rw (x.1, x.2) (record {
       reads = sofar_stops c.loop-k.invariant (length (listed c.args.scope.now)) (omega (arith, c.len-k-end.ensures)) r;
@@ -41,7 +41,7 @@ push-requires c = omega (arith, sofar_length c.loop-k.invariant, listed_few c.ar
 
 pub loop-k-preserved : goal.loop-k-preserved
 loop-k-preserved c =
-    let h = c.in-ok-value.ensures in
+    let h = c.in_ok-value.ensures in
     sofar_more c.loop-k.invariant (h.reads ∙ limit (listed c.args.counts.now) (listed c.args.scope.now) c.loop-k.invariant c.at.ensures c.at-count.ensures) h.same c.push.ensures
 
 pub returns : goal.returns

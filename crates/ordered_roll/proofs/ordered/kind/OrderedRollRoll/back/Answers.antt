@@ -9,8 +9,8 @@ returns-then-self-eq0 c =
     let d = back_none (parts_of c.args.self.now) c.if-self-eq0.true in
     record { answer = d.answer; after = d.after }
 
-pub invariant-of-self : goal.invariant-of-self
-invariant-of-self c =
+pub invariant_of-self : goal.invariant_of-self
+invariant_of-self c =
     let p = c.args.self.now in
     let K : ℕ = p.kept - 1 in
     let n : p.kept ≡ suc K = let t = c.if-self-eq0.false in omega arith in

@@ -3,8 +3,8 @@ use Rattle.ordered_roll.specs.Ordered.{meaning_of}
 use Rattle.ordered_roll.specs.Invariant.{parts_of, ghosts, held_by, begun_parts, holds_begin, begin_is}
 use Rattle.ordered_roll.proofs.ordered.kind.OrderedRollRoll.begin.Goals as goal
 
-pub invariant-of-self : goal.invariant-of-self
-invariant-of-self c =
+pub invariant_of-self : goal.invariant_of-self
+invariant_of-self c =
     let p = c.args.self.now in
     let f = c.fill.new.self in
     let l : c.args.n ≤ 1024 = omega arith in

@@ -3,9 +3,9 @@ use Rattle.ordered_roll.specs.Ordered.{meaning_of}
 use Rattle.ordered_roll.specs.Places.{marks_of, saves_of}
 use Rattle.ordered_roll.proofs.ordered.kind.OrderedRollRoll.new.Goals as goal
 
-pub invariant-of-result : goal.invariant-of-result
+pub invariant_of-result : goal.invariant_of-result
 unfolding marks_of
-invariant-of-result c = (
+invariant_of-result c = (
   (refl, (refl, refl)),
   (
     (omega arith, (omega arith, omega arith)),

@@ -9,8 +9,8 @@ returns-then-self-eq32 c =
     let d = save_none (parts_of c.args.self.now) c.if-self-eq32.true in
     record { answer = d.answer; after = d.after }
 
-pub invariant-of-self : goal.invariant-of-self
-invariant-of-self c =
+pub invariant_of-self : goal.invariant_of-self
+invariant_of-self c =
     let p = c.args.self.now in
     let l : p.kept < 32 = let t = c.if-self-eq32.false in let q = p.few.1.0 in omega arith in
     let s : Parts = saved_parts (parts_of p) in

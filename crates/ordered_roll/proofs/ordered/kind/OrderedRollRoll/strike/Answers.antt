@@ -31,15 +31,15 @@ returns-then-not-stands c =
     let h = c.if-not-stands.ensures in
     record { answer = h; after = sym (struck_out (meaning_of c.args.self.now) c.args.k (sym h)) }
 
-pub overflow-cast-k : goal.overflow-cast-k
-overflow-cast-k c =
+pub overflow_cast-k : goal.overflow_cast-k
+overflow_cast-k c =
     let s = standing c.args.self.now c.args.k (sym c.if-not-stands.ensures) in
     let b = s.below in
     let z = s.size in
     record { fits = omega arith }
 
-pub overflow-sub-self : goal.overflow-sub-self
-overflow-sub-self c =
+pub overflow_sub-self : goal.overflow_sub-self
+overflow_sub-self c =
     let f = (standing c.args.self.now c.args.k (sym c.if-not-stands.ensures)).front in
     omega arith
 
@@ -53,8 +53,8 @@ exchange-requires c =
     let o = s.other in
     (omega arith, (omega arith, (omega arith, omega arith)))
 
-pub overflow-sub-self-2 : goal.overflow-sub-self-2
-overflow-sub-self-2 c =
+pub overflow_sub-self-2 : goal.overflow_sub-self-2
+overflow_sub-self-2 c =
     let f = (standing c.args.self.now c.args.k (sym c.if-not-stands.ensures)).front in
     omega arith
 
@@ -67,8 +67,8 @@ written : (p : OrderedRoll) (k : ℕ) (list place : List ℕ) → list ≡ list_
     → place ≡ place_after p.lists.list p.lists.place k (p.count - 1) → after_with p list place (p.count - 1) ≡ struck_parts (parts_of p) k
 written p k list place a b = λ i. record { list = a i; place = b i; counts = p.notes.counts; size = p.size; count = p.count - 1; kept = p.kept }
 
-pub invariant-of-self : goal.invariant-of-self
-invariant-of-self c =
+pub invariant_of-self : goal.invariant_of-self
+invariant_of-self c =
     let p = c.args.self.now in
     let k : ℕ = c.args.k in
     let t = c.exchange.new.self in

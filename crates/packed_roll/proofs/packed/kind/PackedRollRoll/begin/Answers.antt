@@ -4,8 +4,8 @@ use Rattle.packed_roll.specs.Invariant.{parts_of, ghosts, held_by, begun_parts, 
 use Rattle.packed_roll.specs.WordLaws.{Full, filled}
 use Rattle.packed_roll.proofs.packed.kind.PackedRollRoll.begin.Goals as goal
 
-pub invariant-of-self : goal.invariant-of-self
-invariant-of-self c =
+pub invariant_of-self : goal.invariant_of-self
+invariant_of-self c =
     let p = c.args.self.now in
     let ws : List ℕ = c.fill.new.self.bits in
     let n : ℕ = c.args.n in

@@ -40,7 +40,7 @@ loop-w-preserved c =
     let v = c.loop-w.invariant in
     let l = v.1 in
     let b = v.0 in
-    let none = passed (word_in p.words.bits) c.args.place c.loop-w.w c.loop-w.from v.2 c.in-default.ensures in
+    let none = passed (word_in p.words.bits) c.args.place c.loop-w.w c.loop-w.from v.2 c.in_default.ensures in
     (omega arith, omega arith, λ i q h. none i q (omega arith))
 
 pub returns : goal.returns

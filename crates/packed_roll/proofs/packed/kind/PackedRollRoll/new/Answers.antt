@@ -5,9 +5,9 @@ use Rattle.packed_roll.specs.Trail.{saves_of}
 use Rattle.packed_roll.specs.WordLaws.{clear_zeros}
 use Rattle.packed_roll.proofs.packed.kind.PackedRollRoll.new.Goals as goal
 
-pub invariant-of-result : goal.invariant-of-result
+pub invariant_of-result : goal.invariant_of-result
 unfolding marks_of
-invariant-of-result c = (
+invariant_of-result c = (
   (refl, (refl, (refl, refl))),
   (
     (omega arith, omega arith),

@@ -50,8 +50,8 @@ note-requires c =
 pub clear-requires : goal.clear-requires
 clear-requires c = let s = (standing c.args.self.now c.args.k (sym c.if-not-stands.ensures)).most in omega arith
 
-pub overflow-sub-self : goal.overflow-sub-self
-overflow-sub-self c =
+pub overflow_sub-self : goal.overflow_sub-self
+overflow_sub-self c =
     let p = c.args.self.now in
     let s = standing p c.args.k (sym c.if-not-stands.ensures) in
     let n = count_less (parts_of p) c.args.k (olds_now p c.args.k) (noted_now p c.args.k) (held_by p) s.below s.marked (trail p c.args.k s.most) in
@@ -67,8 +67,8 @@ written : (p : PackedRoll) (k : ℕ) (ws olds noted counts : List ℕ) → ws �
 written p k ws olds noted counts a b c d =
     λ i. record { ws = a i; olds = b i; noted = c i; counts = d i; size = p.size; count = p.count - 1; kept = p.kept }
 
-pub invariant-of-self : goal.invariant-of-self
-invariant-of-self c =
+pub invariant_of-self : goal.invariant_of-self
+invariant_of-self c =
     let p = c.args.self.now in
     let k : ℕ = c.args.k in
     let t = c.note.new.self in
