@@ -54,22 +54,6 @@ held_by p = record {
   saves_counted = p.saves_counted;
 }
 
--- the ghost fields, as they are asked for where a roll is given back
-abbrev pub Ghosts : Parts → Type 0
-Ghosts s =
-    ((length s.list ≡ 1024) × ((length s.place ≡ 1024) × (length s.counts ≡ 32)))
-    × (((s.size ≤ 1024) × ((s.kept ≤ 32) × (s.count ≤ s.size)))
-    × (Inverse s.size s.place s.list
-    × (Inverse s.size s.list s.place
-    × ((trues (marks_of s.place s.count s.size) ≡ s.count)
-    × (((i d : ℕ) → i + d < s.kept → slice_index s.counts (i + d) ≤ slice_index s.counts i)
-    × (((i : ℕ) → i < s.kept → (s.count ≤ slice_index s.counts i) × (slice_index s.counts i ≤ s.size))
-    × (((i : ℕ) → i < s.kept → trues (marks_of s.place (slice_index s.counts i) s.size) ≡ slice_index s.counts i)
-    × Unit {0})))))))
-
-pub ghosts : (s : Parts) → Holds s → Ghosts s
-ghosts s k = (k.long, (k.few, (k.placed, (k.listed, (k.counted, (k.falling, (k.fewer, (k.saves_counted, tt))))))))
-
 -- the meaning
 abbrev pub means : Parts → Meaning
 means s = record { marks = marks_of s.place s.count s.size; saves = saves_of s.place s.counts s.size s.kept; free = 32 - s.kept }

@@ -45,20 +45,6 @@ pub held_by : (p : PackedRoll) → Holds (parts_of p)
 held_by p = record
     { long = p.long; few = p.few; clear = p.clear; counted = p.counted; saves_clear = p.saves_clear; saves_counted = p.saves_counted }
 
--- the ghost fields, as they are asked for where a roll is given back
-abbrev pub Ghosts : Parts → Type 0
-Ghosts s =
-    ((length s.ws ≡ 64) × ((length s.olds ≡ 2048) × ((length s.noted ≡ 32) × (length s.counts ≡ 32))))
-    × (((s.size ≤ 4096) × (s.kept ≤ 32))
-    × (Clear s.size (word_in s.ws)
-    × ((trues (marks_of (word_in s.ws) s.size) ≡ s.count)
-    × (((i : ℕ) → i < s.kept → Clear s.size (words_at s.olds s.noted (word_in s.ws) s.kept i))
-    × (((i : ℕ) → i < s.kept → trues (marks_of (words_at s.olds s.noted (word_in s.ws) s.kept i) s.size) ≡ slice_index s.counts i)
-    × Unit {0})))))
-
-pub ghosts : (s : Parts) → Holds s → Ghosts s
-ghosts s k = (k.long, (k.few, (k.clear, (k.counted, (k.saves_clear, (k.saves_counted, tt))))))
-
 -- the meaning
 abbrev pub means : Parts → Meaning
 means s = record { marks = marks_of (word_in s.ws) s.size; saves = saves_of s.olds s.noted s.size (word_in s.ws) s.kept; free = 32 - s.kept }

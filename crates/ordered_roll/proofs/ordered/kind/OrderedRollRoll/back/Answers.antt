@@ -1,6 +1,6 @@
 use Rattle.std.proofs.Common.{◌≡◌, ℕ, suc, ◌-◌, subst, arith}
 use Rattle.ordered_roll.specs.Ordered.{meaning_of}
-use Rattle.ordered_roll.specs.Invariant.{Parts, Ghosts, parts_of, with_kept, ghosts, held_by, back_parts, back_none, holds_back, back_is}
+use Rattle.ordered_roll.specs.Invariant.{Parts, Holds, parts_of, with_kept, held_by, back_parts, back_none, holds_back, back_is}
 use Rattle.ordered_roll.proofs.ordered.kind.OrderedRollRoll.back.Goals as goal
 
 pub returns-then-self-eq0 : goal.returns-then-self-eq0
@@ -15,8 +15,18 @@ invariant_of-self c =
     let K : ℕ = p.kept - 1 in
     let n : p.kept ≡ suc K = let t = c.if-self-eq0.false in omega arith in
     let s : Parts = back_parts (parts_of p) K in
-    let P : ℕ → Type 0 = λ x. Ghosts (with_kept s x) in
-    subst P (omega arith) (ghosts s (holds_back (parts_of p) K (held_by p) n))
+    let P : ℕ → Type 0 = λ x. Holds (with_kept s x) in
+    let h : P (p.kept - 1) = holds_back (parts_of p) K (held_by p) n in
+    record {
+      long = h.long;
+      few = h.few;
+      placed = h.placed;
+      listed = h.listed;
+      counted = h.counted;
+      falling = h.falling;
+      fewer = h.fewer;
+      saves_counted = h.saves_counted;
+    }
 
 pub returns : goal.returns
 unfolding meaning_of

@@ -1,6 +1,6 @@
 use Rattle.std.proofs.Common.{◌≤◌, arith}
 use Rattle.ordered_roll.specs.Ordered.{meaning_of}
-use Rattle.ordered_roll.specs.Invariant.{parts_of, ghosts, held_by, begun_parts, holds_begin, begin_is}
+use Rattle.ordered_roll.specs.Invariant.{parts_of, held_by, begun_parts, holds_begin, begin_is}
 use Rattle.ordered_roll.proofs.ordered.kind.OrderedRollRoll.begin.Goals as goal
 
 pub invariant_of-self : goal.invariant_of-self
@@ -8,8 +8,17 @@ invariant_of-self c =
     let p = c.args.self.now in
     let f = c.fill.new.self in
     let l : c.args.n ≤ 1024 = omega arith in
-    ghosts (begun_parts (parts_of p) f.list f.place c.args.n)
-    (holds_begin (parts_of p) f.list f.place c.args.n l c.fill.ensures.long c.fill.ensures.list c.fill.ensures.place (held_by p))
+    let h = holds_begin (parts_of p) f.list f.place c.args.n l c.fill.ensures.long c.fill.ensures.list c.fill.ensures.place (held_by p) in
+    record {
+      long = h.long;
+      few = h.few;
+      placed = h.placed;
+      listed = h.listed;
+      counted = h.counted;
+      falling = h.falling;
+      fewer = h.fewer;
+      saves_counted = h.saves_counted;
+    }
 
 pub returns : goal.returns
 unfolding meaning_of

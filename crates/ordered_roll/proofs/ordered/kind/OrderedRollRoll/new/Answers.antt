@@ -5,22 +5,16 @@ use Rattle.ordered_roll.proofs.ordered.kind.OrderedRollRoll.new.Goals as goal
 
 pub invariant_of-result : goal.invariant_of-result
 unfolding marks_of
-invariant_of-result c = (
-  (refl, (refl, refl)),
-  (
-    (omega arith, (omega arith, omega arith)),
-    (
-      (λ k l. absurd (let z : ⊥ = omega arith in z)),
-      (
-        (λ k l. absurd (let z : ⊥ = omega arith in z)),
-        (
-          refl,
-          ((λ i d b. absurd (let z : ⊥ = omega arith in z)), ((λ i b. absurd (let z : ⊥ = omega arith in z)), ((λ i b. absurd (let z : ⊥ = omega arith in z)), tt))),
-        ),
-      ),
-    ),
-  ),
-)
+invariant_of-result c = record {
+  long = (refl, (refl, refl));
+  few = (omega arith, (omega arith, omega arith));
+  placed = λ k l. absurd (let z : ⊥ = omega arith in z);
+  listed = λ k l. absurd (let z : ⊥ = omega arith in z);
+  counted = refl;
+  falling = λ i d b. absurd (let z : ⊥ = omega arith in z);
+  fewer = λ i b. absurd (let z : ⊥ = omega arith in z);
+  saves_counted = λ i b. absurd (let z : ⊥ = omega arith in z);
+}
 
 pub returns : goal.returns
 unfolding meaning_of marks_of saves_of

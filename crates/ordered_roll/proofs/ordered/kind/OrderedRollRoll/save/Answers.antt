@@ -1,6 +1,6 @@
 use Rattle.std.proofs.Common.{◌≡◌, ℕ, suc, ◌+◌, ◌<◌, ap, ◌∙◌, subst, arith}
 use Rattle.ordered_roll.specs.Ordered.{meaning_of}
-use Rattle.ordered_roll.specs.Invariant.{Parts, Ghosts, parts_of, with_kept, ghosts, held_by, means, saved_parts, save_none, holds_save, save_is}
+use Rattle.ordered_roll.specs.Invariant.{Parts, Holds, parts_of, with_kept, held_by, means, saved_parts, save_none, holds_save, save_is}
 use Rattle.ordered_roll.proofs.ordered.kind.OrderedRollRoll.save.Goals as goal
 
 pub returns-then-self-eq32 : goal.returns-then-self-eq32
@@ -14,8 +14,18 @@ invariant_of-self c =
     let p = c.args.self.now in
     let l : p.kept < 32 = let t = c.if-self-eq32.false in let q = p.few.1.0 in omega arith in
     let s : Parts = saved_parts (parts_of p) in
-    let P : ℕ → Type 0 = λ n. Ghosts (with_kept s n) in
-    subst P (omega arith) (ghosts s (holds_save (parts_of p) (held_by p) l))
+    let P : ℕ → Type 0 = λ n. Holds (with_kept s n) in
+    let h : P (p.kept + 1) = subst P (omega arith) (holds_save (parts_of p) (held_by p) l) in
+    record {
+      long = h.long;
+      few = h.few;
+      placed = h.placed;
+      listed = h.listed;
+      counted = h.counted;
+      falling = h.falling;
+      fewer = h.fewer;
+      saves_counted = h.saves_counted;
+    }
 
 pub returns : goal.returns
 unfolding meaning_of

@@ -7,7 +7,7 @@ use Rattle.ordered_roll.specs.Ordered.{meaning_of}
 use Rattle.ordered_roll.specs.Places.{list_after, place_after}
 use Rattle.ordered_roll.specs.declared.ordered.OrderedRoll.{OrderedRoll}
 use Rattle.ordered_roll.specs.PlaceLaws.{length_marks, marks_at}
-use Rattle.ordered_roll.specs.Invariant.{Parts, Ghosts, parts_of, ghosts, held_by, means, struck_parts, holds_strike, strike_is}
+use Rattle.ordered_roll.specs.Invariant.{Parts, Holds, parts_of, held_by, means, struck_parts, holds_strike, strike_is}
 use Rattle.ordered_roll.proofs.ordered.kind.OrderedRollRoll.strike.Goals as goal
 
 -- k stands in the roll p: it is below the size, and in front
@@ -74,8 +74,19 @@ invariant_of-self c =
     let t = c.exchange.new.self in
     let h = standing p k (sym c.if-not-stands.ensures) in
     let e = written p k t.list t.place c.exchange.ensures.list c.exchange.ensures.place in
-    let P : ℕ → Type 0 = λ n. Ghosts (after_with p t.list t.place n) in
-    subst P (omega arith) (subst Ghosts (sym e) (ghosts (struck_parts (parts_of p) k) (holds_strike (parts_of p) k (held_by p) h.below h.front)))
+    let P : ℕ → Type 0 = λ n. Holds (after_with p t.list t.place n) in
+    let z = holds_strike (parts_of p) k (held_by p) h.below h.front in
+    let h : P (p.count - 1) = subst Holds (sym e) z in
+    record {
+      long = h.long;
+      few = h.few;
+      placed = h.placed;
+      listed = h.listed;
+      counted = h.counted;
+      falling = h.falling;
+      fewer = h.fewer;
+      saves_counted = h.saves_counted;
+    }
 
 pub returns : goal.returns
 unfolding meaning_of

@@ -1,6 +1,6 @@
 use Rattle.std.proofs.Common.{ℕ, ◌≤◌, List, arith}
 use Rattle.packed_roll.specs.Packed.{meaning_of}
-use Rattle.packed_roll.specs.Invariant.{parts_of, ghosts, held_by, begun_parts, holds_begin, begin_is}
+use Rattle.packed_roll.specs.Invariant.{parts_of, held_by, begun_parts, holds_begin, begin_is}
 use Rattle.packed_roll.specs.WordLaws.{Full, filled}
 use Rattle.packed_roll.proofs.packed.kind.PackedRollRoll.begin.Goals as goal
 
@@ -11,7 +11,8 @@ invariant_of-self c =
     let n : ℕ = c.args.n in
     let l : n ≤ 4096 = omega arith in
     let f : Full n ws = filled n ws l c.fill.ensures.long c.fill.ensures.words in
-    ghosts (begun_parts (parts_of p) ws n) (holds_begin (parts_of p) ws n l c.fill.ensures.long f (held_by p))
+    let h = holds_begin (parts_of p) ws n l c.fill.ensures.long f (held_by p) in
+    record { long = h.long; few = h.few; clear = h.clear; counted = h.counted; saves_clear = h.saves_clear; saves_counted = h.saves_counted }
 
 pub returns : goal.returns
 unfolding meaning_of

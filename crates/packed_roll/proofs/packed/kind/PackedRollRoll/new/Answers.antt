@@ -7,19 +7,14 @@ use Rattle.packed_roll.proofs.packed.kind.PackedRollRoll.new.Goals as goal
 
 pub invariant_of-result : goal.invariant_of-result
 unfolding marks_of
-invariant_of-result c = (
-  (refl, (refl, (refl, refl))),
-  (
-    (omega arith, omega arith),
-    (
-      (λ k. clear_zeros 64 _),
-      (
-        refl,
-        ((λ i z. absurd (let y : ⊥ = omega arith in y)), ((λ i z. absurd (let y : ⊥ = omega arith in y)), tt)),
-      ),
-    ),
-  ),
-)
+invariant_of-result c = record {
+  long = (refl, (refl, (refl, refl)));
+  few = (omega arith, omega arith);
+  clear = λ k. clear_zeros 64 _;
+  counted = refl;
+  saves_clear = λ i z. absurd (let y : ⊥ = omega arith in y);
+  saves_counted = λ i z. absurd (let y : ⊥ = omega arith in y);
+}
 
 pub returns : goal.returns
 unfolding meaning_of marks_of saves_of

@@ -1,6 +1,6 @@
 use Rattle.std.proofs.Common.{◌≡◌, ℕ, suc, ◌+◌, ◌<◌, ap, ◌∙◌, subst, arith}
 use Rattle.packed_roll.specs.Packed.{meaning_of}
-use Rattle.packed_roll.specs.Invariant.{Parts, Ghosts, parts_of, with_kept, ghosts, held_by, means, saved_parts, save_none, holds_save, save_is}
+use Rattle.packed_roll.specs.Invariant.{Parts, Holds, parts_of, with_kept, held_by, means, saved_parts, save_none, holds_save, save_is}
 use Rattle.packed_roll.proofs.packed.kind.PackedRollRoll.save.Goals as goal
 
 pub returns-then-self-eq32 : goal.returns-then-self-eq32
@@ -14,8 +14,9 @@ invariant_of-self c =
     let p = c.args.self.now in
     let l : p.kept < 32 = let t = c.if-self-eq32.false in let q = p.few.1 in omega arith in
     let s : Parts = saved_parts (parts_of p) in
-    let P : ℕ → Type 0 = λ n. Ghosts (with_kept s n) in
-    subst P (omega arith) (ghosts s (holds_save (parts_of p) (held_by p) l))
+    let P : ℕ → Type 0 = λ n. Holds (with_kept s n) in
+    let h : P (p.kept + 1) = subst P (omega arith) (holds_save (parts_of p) (held_by p) l) in
+    record { long = h.long; few = h.few; clear = h.clear; counted = h.counted; saves_clear = h.saves_clear; saves_counted = h.saves_counted }
 
 pub returns : goal.returns
 unfolding meaning_of

@@ -8,7 +8,7 @@ use Rattle.packed_roll.specs.Trail.{olds_after, noted_after}
 use Rattle.packed_roll.specs.declared.packed.PackedRoll.{PackedRoll}
 use Rattle.packed_roll.specs.WordLaws.{length_marks, marks_at}
 use Rattle.packed_roll.specs.TrailLaws.{SavesKept, saves_kept}
-use Rattle.packed_roll.specs.Invariant.{Parts, Ghosts, parts_of, ghosts, means, held_by, struck_parts, count_less, holds_strike, strike_is}
+use Rattle.packed_roll.specs.Invariant.{Parts, Holds, parts_of, means, held_by, struck_parts, count_less, holds_strike, strike_is}
 use Rattle.packed_roll.proofs.packed.kind.PackedRollRoll.strike.Goals as goal
 
 -- k stands in the roll p: it is below the size, and its bit is set
@@ -76,8 +76,10 @@ invariant_of-self c =
     let h = standing p k (sym c.if-not-stands.ensures) in
     let e = written p k ws t.olds t.noted t.counts c.clear.ensures c.note.ensures.olds c.note.ensures.noted c.note.ensures.counts in
     let s : Parts = struck_parts (parts_of p) k (olds_now p k) (noted_now p k) in
-    let P : ℕ → Type 0 = λ n. Ghosts (after_with p ws t.olds t.noted t.counts n) in
-    subst P (omega arith) (subst Ghosts (sym e) (ghosts s (holds_strike (parts_of p) k (olds_now p k) (noted_now p k) (held_by p) h.below h.marked (trail p k h.most))))
+    let P : ℕ → Type 0 = λ n. Holds (after_with p ws t.olds t.noted t.counts n) in
+    let z = holds_strike (parts_of p) k (olds_now p k) (noted_now p k) (held_by p) h.below h.marked (trail p k h.most) in
+    let h : P (p.count - 1) = subst Holds (sym e) z in
+    record { long = h.long; few = h.few; clear = h.clear; counted = h.counted; saves_clear = h.saves_clear; saves_counted = h.saves_counted }
 
 pub returns : goal.returns
 unfolding meaning_of
