@@ -1,6 +1,6 @@
 ghost use Rattle.ordered_roll.specs.Ordered.{meaning_of};
 ghost use Rattle.ordered_roll.specs.Invariant.{sound_of};
-ghost use Rattle.std.proofs.Common.{rules, arith};
+ghost use Rattle.std.proofs.Common.{rules};
 
 use crate::lists::Lists;
 use crate::ordered::{Notes, OrderedRoll};
@@ -16,9 +16,9 @@ impl Roll for OrderedRoll {
 
     ghost meaning = { meaning_of };
 
-    ghost same = { first_of (Prim.search rules, Prim.grind (arith, Self.row.coded.inj)) };
+    ghost same = { Prim.search rules };
 
-    ghost few = { first_of (Prim.search rules, Prim.grind (arith, Self.row.coded.inj)) };
+    ghost few = { Prim.search rules };
 
     ghost sound = { λ x. sound_of x };
 
