@@ -1,5 +1,5 @@
 -- Which numbers the bits of 64-bit words stand for.
-use Rattle.std.specs.Prelude.{◌≡◌, ℕ, ◌+◌, ◌-◌, ◌*◌, ◌/◌, ◌%◌, ◌^◌, ◌<◌, ◌≤◌, min, Bool, true, false, List, map, set, Some, None, Option, ◌==◌, bit_xor, slice_index, slice_set}
+use Rattle.std.specs.Prelude.{◌≡◌, ℕ, ◌+◌, ◌-◌, ◌*◌, ◌/◌, ◌%◌, ◌^◌, ◌<◌, ◌≤◌, min, Bool, true, false, List, map, Some, None, Option, ◌==◌, bit_xor, slice_index, slice_set}
 use Rattle.std.specs.List.{range_with_len}
 use Rattle.roll.specs.Meaning.{Marks}
 

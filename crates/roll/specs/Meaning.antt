@@ -1,5 +1,5 @@
 -- What a roll means: which numbers below its size stand, which saves it keeps, and how many saves are free.
-use Rattle.std.specs.Prelude.{◌≡◌, ℕ, suc, ◌+◌, ◌-◌, ◌≤◌, Bool, true, false, List, [], ◌∷◌, length, drop, set, replicate, Some, None, Option, slice_index_or, slice_set}
+use Rattle.std.specs.Prelude.{◌≡◌, ℕ, suc, ◌+◌, ◌-◌, ◌≤◌, Bool, true, false, List, [], ◌∷◌, length, drop, replicate, Some, None, Option, slice_index_or, slice_set}
 
 -- a set of numbers below a size: one mark for each number, true where it is in the set
 abbrev pub Marks : Type 0

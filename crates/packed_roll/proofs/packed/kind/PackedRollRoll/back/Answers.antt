@@ -1,4 +1,4 @@
-use Rattle.std.proofs.Common.{◌≡◌, ℕ, suc, ◌-◌, List, subst, arith}
+use Rattle.std.proofs.Common.{◌≡◌, ℕ, suc, ◌-◌, List, arith}
 use Rattle.packed_roll.specs.Packed.{meaning_of}
 use Rattle.packed_roll.specs.Words.{word_in}
 use Rattle.packed_roll.specs.Trail.{rewound}
