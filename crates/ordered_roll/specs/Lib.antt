@@ -1,5 +1,3 @@
 pub mod Places
 pub mod Ordered
-pub mod Invariant
-pub mod PlaceLaws
-pub mod Exchange
+pub mod Soundness

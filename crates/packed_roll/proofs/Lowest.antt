@@ -5,7 +5,7 @@ use lib.Count.{count_trailing_zeros, under}
 use lib.Pow.{shr_le}
 use Rattle.std.proofs.lemmas.Bool.{cases_eq, cases_lt, true≢false}
 use Rattle.packed_roll.specs.Words.{bit, LowestBit}
-use Rattle.packed_roll.specs.BitLaws.{bit_past, bit_shifted}
+use Rattle.packed_roll.proofs.BitLaws.{bit_past, bit_shifted}
 
 -- t is the lowest bit that is set in the word w, which has k bits
 pub record Lowest (k w t : ℕ) : Type 0 where

@@ -7,7 +7,7 @@ use Rattle.std.proofs.lemmas.Nat.{one_shl}
 use Rattle.std.proofs.lemmas.List.{get_or-set_same, get_or-set_other, length-set}
 use Rattle.std.proofs.lemmas.Bool.{cases_eq, cases_lt, true≢false}
 use Rattle.packed_roll.specs.Words.{bit, LowestBit}
-use Rattle.packed_roll.specs.BitLaws.{bit_turned_other, bit_turned_same, bit-zero}
+use Rattle.packed_roll.proofs.BitLaws.{bit_turned_other, bit_turned_same, bit-zero}
 use Rattle.packed_roll.proofs.Lowest.{lowest_of}
 
 -- of the words xs, those with a bit in the mask but not in `left` are put back; ys are the words now

@@ -1,7 +1,4 @@
 pub mod Words
 pub mod Trail
 pub mod Packed
-pub mod Invariant
-pub mod WordLaws
-pub mod BitLaws
-pub mod TrailLaws
+pub mod Soundness

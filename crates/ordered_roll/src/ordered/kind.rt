@@ -1,5 +1,5 @@
 ghost use Rattle.ordered_roll.specs.Ordered.{meaning_of};
-ghost use Rattle.ordered_roll.specs.Invariant.{sound_of};
+ghost use Rattle.ordered_roll.specs.Soundness.{sound_of};
 ghost use Rattle.std.proofs.Common.{rules};
 
 use crate::lists::Lists;

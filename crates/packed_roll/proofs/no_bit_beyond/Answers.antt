@@ -1,6 +1,6 @@
 use Rattle.packed_roll.specs.Words.{word_in}
 use Rattle.packed_roll.specs.Trail.{words_at}
-use Rattle.packed_roll.specs.WordLaws.{clear_at}
+use Rattle.packed_roll.proofs.WordLaws.{clear_at}
 use Rattle.packed_roll.proofs.no_bit_beyond.Goals as goal
 
 pub returns : goal.returns

@@ -1,5 +1,5 @@
 ghost use Rattle.packed_roll.specs.Packed.{meaning_of};
-ghost use Rattle.packed_roll.specs.Invariant.{sound_of};
+ghost use Rattle.packed_roll.specs.Soundness.{sound_of};
 ghost use Rattle.std.proofs.Common.{rules};
 
 use crate::bits::lowest_bit;

@@ -1,5 +1,5 @@
 use Rattle.std.proofs.Common.{arith}
-use Rattle.packed_roll.specs.BitLaws.{bit_past}
+use Rattle.packed_roll.proofs.BitLaws.{bit_past}
 use Rattle.packed_roll.proofs.Lowest.{lowest_from}
 use Rattle.packed_roll.proofs.bits.lowest_bit.Goals as goal
 

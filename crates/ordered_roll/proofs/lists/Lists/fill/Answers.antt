@@ -1,6 +1,6 @@
 use Rattle.std.proofs.Common.{ℕ, List, ◌∙◌, arith}
 use Rattle.std.proofs.lemmas.List.{length-set}
-use Rattle.ordered_roll.specs.PlaceLaws.{order_more}
+use Rattle.ordered_roll.proofs.PlaceLaws.{order_more}
 use Rattle.ordered_roll.proofs.lists.Lists.fill.Goals as goal
 
 pub loop-i-preserved : goal.loop-i-preserved

@@ -1,5 +1,5 @@
 use Rattle.std.proofs.Common.{◌≡◌, length}
-use Rattle.ordered_roll.specs.PlaceLaws.{InOrder}
+use Rattle.ordered_roll.proofs.PlaceLaws.{InOrder}
 use Rattle.ordered_roll.proofs.lists.Lists.fill.Given as goal
 
 abbrev pub invariant-loop-i : goal.invariant-loop-i

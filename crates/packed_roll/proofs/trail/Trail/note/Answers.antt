@@ -1,5 +1,5 @@
 use Rattle.std.proofs.Common.{◌≡◌, ℕ, suc, ◌-◌, sym, refl, ◌∙◌, arith}
-use Rattle.packed_roll.specs.TrailLaws.{note_without_save, note_again, note_first}
+use Rattle.packed_roll.proofs.TrailLaws.{note_without_save, note_again, note_first}
 use Rattle.packed_roll.proofs.trail.Trail.note.Goals as goal
 
 pub returns-then-kept-eq0 : goal.returns-then-kept-eq0

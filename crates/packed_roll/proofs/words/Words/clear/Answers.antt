@@ -1,4 +1,4 @@
-use Rattle.packed_roll.specs.WordLaws.{turned}
+use Rattle.packed_roll.proofs.WordLaws.{turned}
 use Rattle.packed_roll.proofs.words.Words.clear.Goals as goal
 
 pub returns : goal.returns

@@ -1,7 +1,7 @@
 use Rattle.std.proofs.Common.{◌≡◌, ℕ, ◌-◌, ◌*◌, ◌<◌, min, length, sym, ap, ◌∙◌, arith}
 use Rattle.std.proofs.lemmas.List.{length-set}
 use Rattle.packed_roll.specs.Words.{full}
-use Rattle.packed_roll.specs.WordLaws.{full_max, full_part, written}
+use Rattle.packed_roll.proofs.WordLaws.{full_max, full_part, written}
 use Rattle.packed_roll.proofs.words.Words.fill.Goals as goal
 use Rattle.packed_roll.proofs.words.Words.fill.Goals.{then-rest-eq64, else-rest-eq64}
 

@@ -1,6 +1,6 @@
 use Rattle.std.proofs.Common.{◌≡◌, ℕ, suc, ◌-◌, arith}
 use Rattle.ordered_roll.specs.Ordered.{meaning_of}
-use Rattle.ordered_roll.specs.Invariant.{Parts, Holds, parts_of, with_kept, held_by, back_parts, back_none, holds_back, back_is}
+use Rattle.ordered_roll.proofs.Invariant.{Parts, Holds, parts_of, with_kept, held_by, back_parts, back_none, holds_back, back_is}
 use Rattle.ordered_roll.proofs.ordered.kind.OrderedRollRoll.back.Goals as goal
 
 pub returns-then-self-eq0 : goal.returns-then-self-eq0

@@ -1,6 +1,6 @@
 use Rattle.std.proofs.Common.{◌≤◌, arith}
 use Rattle.ordered_roll.specs.Ordered.{meaning_of}
-use Rattle.ordered_roll.specs.Invariant.{parts_of, held_by, holds_begin, begin_is}
+use Rattle.ordered_roll.proofs.Invariant.{parts_of, held_by, holds_begin, begin_is}
 use Rattle.ordered_roll.proofs.ordered.kind.OrderedRollRoll.begin.Goals as goal
 
 pub invariant_of-self : goal.invariant_of-self

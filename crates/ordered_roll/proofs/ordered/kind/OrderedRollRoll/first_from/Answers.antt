@@ -4,7 +4,7 @@ use Rattle.roll.specs.Meaning.{stands_at}
 use Rattle.roll.proofs.First.{lowest_is, none_is}
 use Rattle.ordered_roll.specs.Ordered.{meaning_of}
 use Rattle.ordered_roll.specs.declared.ordered.OrderedRoll.{OrderedRoll}
-use Rattle.ordered_roll.specs.PlaceLaws.{marks_at, marks_past}
+use Rattle.ordered_roll.proofs.PlaceLaws.{marks_at, marks_past}
 use Rattle.ordered_roll.proofs.ordered.kind.OrderedRollRoll.first_from.Goals as goal
 
 at : (p : OrderedRoll) (k : ℕ) → k < p.size → stands_at (meaning_of p) k ≡ ltb (get_or p.lists.place k 0) p.count

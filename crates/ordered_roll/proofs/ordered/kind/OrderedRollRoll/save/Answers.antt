@@ -1,6 +1,6 @@
 use Rattle.std.proofs.Common.{◌≡◌, ℕ, suc, ◌+◌, ◌<◌, ap, ◌∙◌, subst, arith}
 use Rattle.ordered_roll.specs.Ordered.{meaning_of}
-use Rattle.ordered_roll.specs.Invariant.{Parts, Holds, parts_of, with_kept, held_by, means, saved_parts, save_none, holds_save, save_is}
+use Rattle.ordered_roll.proofs.Invariant.{Parts, Holds, parts_of, with_kept, held_by, means, saved_parts, save_none, holds_save, save_is}
 use Rattle.ordered_roll.proofs.ordered.kind.OrderedRollRoll.save.Goals as goal
 
 pub returns-then-self-eq32 : goal.returns-then-self-eq32

@@ -1,6 +1,6 @@
 use Rattle.std.proofs.Common.{arith}
 use Rattle.ordered_roll.specs.Ordered.{meaning_of}
-use Rattle.ordered_roll.specs.PlaceLaws.{length_marks}
+use Rattle.ordered_roll.specs.Soundness.{length_marks}
 use Rattle.ordered_roll.proofs.ordered.kind.OrderedRollRoll.size.Goals as goal
 
 pub returns : goal.returns

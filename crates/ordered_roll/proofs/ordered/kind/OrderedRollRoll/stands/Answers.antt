@@ -1,7 +1,7 @@
 use Rattle.std.proofs.Common.{sym, ◌∙◌, arith}
 use Rattle.std.proofs.lemmas.Bool.{le-ltb}
 use Rattle.ordered_roll.specs.Ordered.{meaning_of}
-use Rattle.ordered_roll.specs.PlaceLaws.{marks_at, marks_past}
+use Rattle.ordered_roll.proofs.PlaceLaws.{marks_at, marks_past}
 use Rattle.ordered_roll.proofs.ordered.kind.OrderedRollRoll.stands.Goals as goal
 
 pub returns-then-k-self : goal.returns-then-k-self

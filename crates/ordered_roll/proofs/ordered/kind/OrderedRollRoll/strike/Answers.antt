@@ -6,8 +6,9 @@ use Rattle.roll.proofs.First.{stands_below}
 use Rattle.ordered_roll.specs.Ordered.{meaning_of}
 use Rattle.ordered_roll.specs.Places.{list_after, place_after}
 use Rattle.ordered_roll.specs.declared.ordered.OrderedRoll.{OrderedRoll}
-use Rattle.ordered_roll.specs.PlaceLaws.{length_marks, marks_at}
-use Rattle.ordered_roll.specs.Invariant.{Parts, Holds, parts_of, held_by, means, struck_parts, holds_strike, strike_is}
+use Rattle.ordered_roll.proofs.PlaceLaws.{marks_at}
+use Rattle.ordered_roll.proofs.Invariant.{Parts, Holds, parts_of, held_by, means, struck_parts, holds_strike, strike_is}
+use Rattle.ordered_roll.specs.Soundness.{length_marks}
 use Rattle.ordered_roll.proofs.ordered.kind.OrderedRollRoll.strike.Goals as goal
 
 -- k stands in the roll p: it is below the size, and in front

@@ -2,8 +2,8 @@ use Rattle.std.proofs.Common.{◌≡◌, ℕ, suc, ◌-◌, List, arith}
 use Rattle.packed_roll.specs.Packed.{meaning_of}
 use Rattle.packed_roll.specs.Words.{word_in}
 use Rattle.packed_roll.specs.Trail.{rewound}
-use Rattle.packed_roll.specs.Invariant.{Parts, Holds, parts_of, with_kept, held_by, back_parts, back_none, holds_back, back_is}
-use Rattle.packed_roll.specs.TrailLaws.{words_back}
+use Rattle.packed_roll.proofs.Invariant.{Parts, Holds, parts_of, with_kept, held_by, back_parts, back_none, holds_back, back_is}
+use Rattle.packed_roll.proofs.TrailLaws.{words_back}
 use Rattle.packed_roll.proofs.packed.kind.PackedRollRoll.back.Goals as goal
 
 pub returns-then-self-eq0 : goal.returns-then-self-eq0

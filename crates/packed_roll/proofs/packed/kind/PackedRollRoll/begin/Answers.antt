@@ -1,7 +1,7 @@
 use Rattle.std.proofs.Common.{ℕ, ◌≤◌, List, arith}
 use Rattle.packed_roll.specs.Packed.{meaning_of}
-use Rattle.packed_roll.specs.Invariant.{parts_of, held_by, holds_begin, begin_is}
-use Rattle.packed_roll.specs.WordLaws.{Full, filled}
+use Rattle.packed_roll.proofs.Invariant.{parts_of, held_by, holds_begin, begin_is}
+use Rattle.packed_roll.proofs.WordLaws.{Full, filled}
 use Rattle.packed_roll.proofs.packed.kind.PackedRollRoll.begin.Goals as goal
 
 pub invariant_of-self : goal.invariant_of-self

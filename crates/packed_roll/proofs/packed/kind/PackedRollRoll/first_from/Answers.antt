@@ -5,7 +5,7 @@ use Rattle.std.proofs.lemmas.Bool.{cases_lt}
 use Rattle.packed_roll.specs.Packed.{meaning_of}
 use Rattle.packed_roll.specs.Words.{mark, word_in}
 use Rattle.packed_roll.specs.declared.packed.PackedRoll.{PackedRoll}
-use Rattle.packed_roll.specs.WordLaws.{marks_at, clear_at}
+use Rattle.packed_roll.proofs.WordLaws.{marks_at, clear_at}
 use Rattle.packed_roll.proofs.FirstLaws.{NoneBetween, FirstMark, found, passed}
 use Rattle.packed_roll.proofs.packed.kind.PackedRollRoll.first_from.Goals as goal
 

@@ -1,7 +1,7 @@
 use Rattle.std.proofs.Common.{arith}
 use Rattle.packed_roll.specs.Packed.{meaning_of}
 use Rattle.packed_roll.specs.Words.{word_in}
-use Rattle.packed_roll.specs.TrailLaws.{length_saves}
+use Rattle.packed_roll.specs.Soundness.{length_saves}
 use Rattle.packed_roll.proofs.packed.kind.PackedRollRoll.kept.Goals as goal
 
 pub returns : goal.returns

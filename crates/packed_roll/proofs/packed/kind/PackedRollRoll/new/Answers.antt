@@ -2,7 +2,7 @@ use Rattle.std.proofs.Common.{refl, arith}
 use Rattle.packed_roll.specs.Packed.{meaning_of}
 use Rattle.packed_roll.specs.Words.{marks_of}
 use Rattle.packed_roll.specs.Trail.{saves_of}
-use Rattle.packed_roll.specs.WordLaws.{clear_zeros}
+use Rattle.packed_roll.proofs.WordLaws.{clear_zeros}
 use Rattle.packed_roll.proofs.packed.kind.PackedRollRoll.new.Goals as goal
 
 pub invariant_of-result : goal.invariant_of-result

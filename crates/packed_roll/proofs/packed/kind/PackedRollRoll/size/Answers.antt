@@ -1,7 +1,7 @@
 use Rattle.std.proofs.Common.{arith}
 use Rattle.packed_roll.specs.Packed.{meaning_of}
 use Rattle.packed_roll.specs.Words.{word_in}
-use Rattle.packed_roll.specs.WordLaws.{length_marks}
+use Rattle.packed_roll.specs.Soundness.{length_marks}
 use Rattle.packed_roll.proofs.packed.kind.PackedRollRoll.size.Goals as goal
 
 pub returns : goal.returns

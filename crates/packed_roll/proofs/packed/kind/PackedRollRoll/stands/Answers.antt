@@ -2,7 +2,7 @@ use Rattle.std.proofs.Common.{sym, ◌∙◌, arith}
 use Rattle.std.proofs.lemmas.Bool.{le-ltb}
 use Rattle.packed_roll.specs.Packed.{meaning_of}
 use Rattle.packed_roll.specs.Words.{word_in}
-use Rattle.packed_roll.specs.WordLaws.{marks_at, marks_past}
+use Rattle.packed_roll.proofs.WordLaws.{marks_at, marks_past}
 use Rattle.packed_roll.proofs.packed.kind.PackedRollRoll.stands.Goals as goal
 
 pub returns-then-k-self : goal.returns-then-k-self

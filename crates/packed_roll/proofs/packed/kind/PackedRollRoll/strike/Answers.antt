@@ -6,9 +6,10 @@ use Rattle.packed_roll.specs.Packed.{meaning_of}
 use Rattle.packed_roll.specs.Words.{mark, word_in, without}
 use Rattle.packed_roll.specs.Trail.{olds_after, noted_after}
 use Rattle.packed_roll.specs.declared.packed.PackedRoll.{PackedRoll}
-use Rattle.packed_roll.specs.WordLaws.{length_marks, marks_at}
-use Rattle.packed_roll.specs.TrailLaws.{SavesKept, saves_kept}
-use Rattle.packed_roll.specs.Invariant.{Parts, Holds, parts_of, means, held_by, struck_parts, count_less, holds_strike, strike_is}
+use Rattle.packed_roll.proofs.WordLaws.{marks_at}
+use Rattle.packed_roll.proofs.TrailLaws.{SavesKept, saves_kept}
+use Rattle.packed_roll.proofs.Invariant.{Parts, Holds, parts_of, means, held_by, struck_parts, count_less, holds_strike, strike_is}
+use Rattle.packed_roll.specs.Soundness.{length_marks}
 use Rattle.packed_roll.proofs.packed.kind.PackedRollRoll.strike.Goals as goal
 
 -- k stands in the roll p: it is below the size, and its bit is set

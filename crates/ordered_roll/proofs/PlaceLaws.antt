@@ -3,13 +3,9 @@ use Rattle.std.specs.Prelude.{◌≡◌, ℕ, zero, suc, ◌+◌, ◌<◌, ◌�
 use Rattle.std.proofs.Common.{sym, ap, ◌∙◌, inl, inr, arith}
 use Rattle.std.proofs.lemmas.List.{get_or-set_same, get_or-set_other}
 use Rattle.std.proofs.lemmas.Bool.{cases_eq, lt-ltb}
-use Rattle.roll.specs.Meaning.{Sized, has, trues}
-use Rattle.roll.proofs.Marks.{made_at, made_past, made_all, length-made, trues_all}
+use Rattle.roll.specs.Meaning.{has, trues}
+use Rattle.roll.proofs.Marks.{made_at, made_past, made_all, trues_all}
 use Rattle.ordered_roll.specs.Places.{front, marks_of, saves_of, Inverse}
-
-pub length_marks : (place : List ℕ) (c n : ℕ) → length (marks_of place c n) ≡ n
-unfolding marks_of
-length_marks place c n = length-made (front place c) n
 
 pub marks_at : (place : List ℕ) (c n k : ℕ) → k < n → has (marks_of place c n) k ≡ nat_lt (slice_index place k) c
 unfolding marks_of front
@@ -18,16 +14,6 @@ marks_at place c n k l = made_at (front place c) n k l
 pub marks_past : (place : List ℕ) (c n k : ℕ) → n ≤ k → has (marks_of place c n) k ≡ false
 unfolding marks_of
 marks_past place c n k l = made_past (front place c) n k l
-
-pub length_saves : (place counts : List ℕ) (n K : ℕ) → length (saves_of place counts n K) ≡ K
-unfolding saves_of
-length_saves place counts n zero = refl
-length_saves place counts n (suc K) = ap suc (length_saves place counts n K)
-
-pub sized_saves : (place counts : List ℕ) (n K : ℕ) → Sized n (saves_of place counts n K)
-unfolding saves_of
-sized_saves place counts n zero = tt
-sized_saves place counts n (suc K) = (length_marks place (slice_index counts K) n, sized_saves place counts n K)
 
 pub no_saves : (place counts : List ℕ) (n K : ℕ) → K ≡ 0 → saves_of place counts n K ≡ []
 unfolding saves_of

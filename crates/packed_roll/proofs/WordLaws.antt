@@ -5,13 +5,9 @@ use Rattle.std.proofs.lemmas.Nat.{one_shl}
 use Rattle.std.proofs.lemmas.List.{get_or-set_same, get_or-set_other, get_or_past, length-set}
 use Rattle.std.proofs.lemmas.Bool.{cases_lt, cases_eq, le-ltb, lt-ltb}
 use Rattle.roll.specs.Meaning.{has, trues}
-use Rattle.roll.proofs.Marks.{made_at, made_past, made_all, made-set, length-made, trues_all, trues-set}
+use Rattle.roll.proofs.Marks.{made_at, made_past, made_all, made-set, trues_all, trues-set}
 use Rattle.packed_roll.specs.Words.{bit, mark, marks_of, word_in, Clear, full, without}
-use Rattle.packed_roll.specs.BitLaws.{bit_turned_other, bit_turned_same, bit_ones, bit_ones_past, bit-zero}
-
-pub length_marks : (f : ℕ → ℕ) (n : ℕ) → length (marks_of f n) ≡ n
-unfolding marks_of
-length_marks f n = length-made (mark f) n
+use Rattle.packed_roll.proofs.BitLaws.{bit_turned_other, bit_turned_same, bit_ones, bit_ones_past, bit-zero}
 
 -- no number at or above n stands
 pub clear_at : (n : ℕ) (f : ℕ → ℕ) → Clear n f → (k : ℕ) → n ≤ k → mark f k ≡ false

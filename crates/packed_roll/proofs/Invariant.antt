@@ -1,18 +1,17 @@
 -- The invariant of a packed roll and its meaning, over its plain values, and how each call keeps the one and alters the other.
 use Rattle.std.specs.Prelude.{◌≡◌, ℕ, suc, ◌+◌, ◌-◌, ◌/◌, ◌<◌, ◌≤◌, true, cond, ◌≢◌, List, length, Ok, Err, slice_index, slice_set, refl}
-use Rattle.std.proofs.Common.{sym, ap, subst, ◌∙◌, inl, inr, arith}
+use Rattle.std.proofs.Common.{sym, ap, ◌∙◌, inl, inr, arith}
 use Rattle.std.proofs.lemmas.List.{get_or-set_same, get_or-set_other, length-set}
 use Rattle.std.proofs.lemmas.Bool.{cases_eq, eq-eqb, ne_eqb}
 use Rattle.refusal.specs.declared.reason.Refusal.TheVariants.{NoSaveFree, NoSaveKept}
-use Rattle.roll.specs.Meaning.{Meaning, Sized, Sound, trues, begun, saved, struck}
+use Rattle.roll.specs.Meaning.{Meaning, trues, begun, saved, struck}
 use Rattle.roll.specs.Calls.{begin_answer, after_begin, save_answer, after_save, back_answer, after_back}
 use Rattle.roll.proofs.Calls.{Done, begin_done, save_declined, save_done, back_declined, back_done}
 use Rattle.packed_roll.specs.Words.{mark, marks_of, word_in, Clear, without}
 use Rattle.packed_roll.specs.Trail.{rewound, words_at, saves_of}
-use Rattle.packed_roll.specs.Packed.{meaning_of}
 use Rattle.packed_roll.specs.declared.packed.PackedRoll.{PackedRoll}
-use Rattle.packed_roll.specs.WordLaws.{Full, length_marks, length_without, marks_struck, clear_struck, count_struck}
-use Rattle.packed_roll.specs.TrailLaws.{SavesKept, length_saves, sized_saves, no_saves, saves_newest, saves_saved, at-saved, at_older, at_newest}
+use Rattle.packed_roll.proofs.WordLaws.{Full, length_without, marks_struck, clear_struck, count_struck}
+use Rattle.packed_roll.proofs.TrailLaws.{SavesKept, no_saves, saves_newest, saves_saved, at-saved, at_older, at_newest}
 
 -- the plain values of a packed roll
 pub record Parts : Type 0 where
@@ -48,18 +47,6 @@ held_by p = record
 -- the meaning
 abbrev pub means : Parts → Meaning
 means s = record { marks = marks_of (word_in s.ws) s.size; saves = saves_of s.olds s.noted s.size (word_in s.ws) s.kept; free = 32 - s.kept }
-
-pub sound_of : (p : PackedRoll) → Sound 4096 (meaning_of p)
-unfolding meaning_of
-sound_of p =
-    let f : ℕ → ℕ = word_in p.words.bits in
-    let n : ℕ = p.size in
-    let e : length (marks_of f n) ≡ n = length_marks f n in
-    let s : n ≤ 4096 = p.few.0 in
-    let q : p.kept ≤ 32 = p.few.1 in
-    let z = length_saves p.trail.olds p.trail.noted n f p.kept in
-    let P : ℕ → Type 0 = λ x. Sized x (saves_of p.trail.olds p.trail.noted n f p.kept) in
-    record { fits = omega arith; sized = subst P (sym e) (sized_saves p.trail.olds p.trail.noted n f p.kept); few = omega arith }
 
 -- Begin with n: ws are the words in which the numbers below n stand.
 

@@ -6,15 +6,14 @@ use native.Mathlib.Omega.{arith}
 use Rattle.std.proofs.lemmas.List.{get_or-set_same, get_or-set_other, length-set}
 use Rattle.std.proofs.lemmas.Bool.{cases_eq, lt-ltb}
 use Rattle.refusal.specs.declared.reason.Refusal.TheVariants.{NoSaveFree, NoSaveKept}
-use Rattle.roll.specs.Meaning.{Meaning, Sized, Sound, has, trues, begun, saved, struck}
+use Rattle.roll.specs.Meaning.{Meaning, has, trues, begun, saved, struck}
 use Rattle.roll.specs.Calls.{begin_answer, after_begin, save_answer, after_save, back_answer, after_back}
 use Rattle.roll.proofs.Calls.{Done, begin_done, save_declined, save_done, back_declined, back_done}
 use Rattle.roll.proofs.Marks.{trues-set}
 use Rattle.ordered_roll.specs.Places.{marks_of, saves_of, Inverse, list_after, place_after}
-use Rattle.ordered_roll.specs.Ordered.{meaning_of}
 use Rattle.ordered_roll.specs.declared.ordered.OrderedRoll.{OrderedRoll}
-use Rattle.ordered_roll.specs.PlaceLaws.{InOrder, length_marks, marks_at, length_saves, sized_saves, no_saves, saves_newest, all_stand, all_counted, order_inverse, saves_saved, saves_same}
-use Rattle.ordered_roll.specs.Exchange.{Pair, mirrored, inverse_swapped, marks_above, marks_struck}
+use Rattle.ordered_roll.proofs.PlaceLaws.{InOrder, marks_at, no_saves, saves_newest, all_stand, all_counted, order_inverse, saves_saved, saves_same}
+use Rattle.ordered_roll.proofs.Exchange.{Pair, mirrored, inverse_swapped, marks_above, marks_struck}
 
 -- the plain values of an ordered roll
 pub record Parts : Type 0 where
@@ -57,16 +56,6 @@ held_by p = record {
 -- the meaning
 abbrev pub means : Parts → Meaning
 means s = record { marks = marks_of s.place s.count s.size; saves = saves_of s.place s.counts s.size s.kept; free = 32 - s.kept }
-
-pub sound_of : (p : OrderedRoll) → Sound 1024 (meaning_of p)
-unfolding meaning_of
-sound_of p =
-    let e : length (marks_of p.lists.place p.count p.size) ≡ p.size = length_marks p.lists.place p.count p.size in
-    let s : p.size ≤ 1024 = p.few.0 in
-    let q : p.kept ≤ 32 = p.few.1.0 in
-    let z = length_saves p.lists.place p.notes.counts p.size p.kept in
-    let P : ℕ → Type 0 = λ x. Sized x (saves_of p.lists.place p.notes.counts p.size p.kept) in
-    record { fits = omega arith; sized = subst P (sym e) (sized_saves p.lists.place p.notes.counts p.size p.kept); few = omega arith }
 
 -- Begin with n: list and place have the numbers below n in order.
 

@@ -5,21 +5,10 @@ use Rattle.std.proofs.Math.Path.{fun_ext}
 use Rattle.std.proofs.lemmas.Nat.{one_shl}
 use Rattle.std.proofs.lemmas.List.{get_or-set_same, get_or-set_other, get_or_past, length-set}
 use Rattle.std.proofs.lemmas.Bool.{cases_lt, cases_eq, cases_Bool, le-ltb, lt-ltb, eq-eqb, ne_eqb}
-use Rattle.roll.specs.Meaning.{Sized}
 use Rattle.packed_roll.specs.Words.{bit, marks_of, word_in, without}
 use Rattle.packed_roll.specs.Trail.{rewound, words_at, saves_of, olds_after, noted_after}
-use Rattle.packed_roll.specs.BitLaws.{bit_turned_other, bit_turned_same, bit-zero}
-use Rattle.packed_roll.specs.WordLaws.{length_marks, word_other}
-
-pub length_saves : (olds noted : List ℕ) (n : ℕ) (f : ℕ → ℕ) (K : ℕ) → length (saves_of olds noted n f K) ≡ K
-unfolding saves_of
-length_saves olds noted n f zero = refl
-length_saves olds noted n f (suc K) = ap suc (length_saves olds noted n (rewound olds noted K f) K)
-
-pub sized_saves : (olds noted : List ℕ) (n : ℕ) (f : ℕ → ℕ) (K : ℕ) → Sized n (saves_of olds noted n f K)
-unfolding saves_of
-sized_saves olds noted n f zero = tt
-sized_saves olds noted n f (suc K) = (length_marks (rewound olds noted K f) n, sized_saves olds noted n (rewound olds noted K f) K)
+use Rattle.packed_roll.proofs.BitLaws.{bit_turned_other, bit_turned_same, bit-zero}
+use Rattle.packed_roll.proofs.WordLaws.{word_other}
 
 pub no_saves : (olds noted : List ℕ) (n : ℕ) (f : ℕ → ℕ) (K : ℕ) → K ≡ 0 → saves_of olds noted n f K ≡ []
 unfolding saves_of
