@@ -1,6 +1,6 @@
 use Rattle.std.proofs.Common.{◌≡◌, ℕ, suc, ◌-◌, arith}
 use Rattle.ordered_roll.specs.Ordered.{meaning_of}
-use Rattle.ordered_roll.proofs.Invariant.{Parts, Holds, parts_of, with_kept, held_by, back_parts, back_none, holds_back, back_is}
+use Rattle.ordered_roll.proofs.Invariant.{parts_of, held_by, back_none, holds_back, back_is}
 use Rattle.ordered_roll.proofs.ordered.kind.OrderedRollRoll.back.Goals as goal
 
 pub returns-then-self-eq0 : goal.returns-then-self-eq0
@@ -14,16 +14,14 @@ invariant_of-self c =
     let p = c.args.self.now in
     let K : ℕ = p.kept - 1 in
     let n : p.kept ≡ suc K = let t = c.if-self-eq0.false in omega arith in
-    let s : Parts = back_parts (parts_of p) K in
-    let P : ℕ → Type 0 = λ x. Holds (with_kept s x) in
-    let h : P (p.kept - 1) = holds_back (parts_of p) K (held_by p) n in
+    let h = holds_back (parts_of p) K (held_by p) n in
     record {
       long = h.long;
       few = h.few;
       placed = h.placed;
       listed = h.listed;
       counted = h.counted;
-      falling = h.falling;
+      falling = λ i d l. h.falling i d (omega arith);
       fewer = h.fewer;
       saves_counted = h.saves_counted;
     }

@@ -18,7 +18,7 @@ invariant_of-self c =
     let h : P (p.kept + 1) = subst P (omega arith) (holds_save (parts_of p) (held_by p) l) in
     record {
       long = h.long;
-      few = h.few;
+      few = (h.few.0, (omega arith, h.few.1.1));
       placed = h.placed;
       listed = h.listed;
       counted = h.counted;

@@ -75,18 +75,17 @@ invariant_of-self c =
     let t = c.exchange.new.self in
     let h = standing p k (sym c.if-not-stands.ensures) in
     let e = written p k t.list t.place c.exchange.ensures.list c.exchange.ensures.place in
-    let P : ℕ → Type 0 = λ n. Holds (after_with p t.list t.place n) in
-    let z = holds_strike (parts_of p) k (held_by p) h.below h.front in
-    let h : P (p.count - 1) = subst Holds (sym e) z in
+    let struck = holds_strike (parts_of p) k (held_by p) h.below h.front in
+    let held : Holds (after_with p t.list t.place (p.count - 1)) = subst Holds (sym e) struck in
     record {
-      long = h.long;
-      few = h.few;
-      placed = h.placed;
-      listed = h.listed;
-      counted = h.counted;
-      falling = h.falling;
-      fewer = h.fewer;
-      saves_counted = h.saves_counted;
+      long = held.long;
+      few = held.few;
+      placed = held.placed;
+      listed = held.listed;
+      counted = let w = held.counted in omega arith;
+      falling = held.falling;
+      fewer = held.fewer;
+      saves_counted = held.saves_counted;
     }
 
 pub returns : goal.returns

@@ -2,7 +2,7 @@ use Rattle.std.proofs.Common.{◌≡◌, ℕ, suc, ◌-◌, List, arith}
 use Rattle.packed_roll.specs.Packed.{meaning_of}
 use Rattle.packed_roll.specs.Words.{word_in}
 use Rattle.packed_roll.specs.Trail.{rewound}
-use Rattle.packed_roll.proofs.Invariant.{Parts, Holds, parts_of, with_kept, held_by, back_parts, back_none, holds_back, back_is}
+use Rattle.packed_roll.proofs.Invariant.{parts_of, held_by, back_none, holds_back, back_is}
 use Rattle.packed_roll.proofs.TrailLaws.{words_back}
 use Rattle.packed_roll.proofs.packed.kind.PackedRollRoll.back.Goals as goal
 
@@ -20,10 +20,8 @@ invariant_of-self c =
     let vs : List ℕ = c.restore.new.bits in
     let e : word_in vs ≡ rewound p.trail.olds p.trail.noted K (word_in p.words.bits)
     = words_back p.trail.olds p.trail.noted p.words.bits vs K p.long.0 c.restore.ensures.long c.restore.ensures.words in
-    let s : Parts = back_parts (parts_of p) vs K in
-    let P : ℕ → Type 0 = λ x. Holds (with_kept s x) in
-    let h : P (p.kept - 1) = holds_back (parts_of p) vs K (held_by p) n e c.restore.ensures.long in
-    record { long = h.long; few = h.few; clear = h.clear; counted = h.counted; saves_clear = h.saves_clear; saves_counted = h.saves_counted }
+    let h = holds_back (parts_of p) vs K (held_by p) n e c.restore.ensures.long in
+    record { long = h.long; few = h.few; clear = h.clear; counted = h.counted; saves_clear = λ i l. h.saves_clear i (omega arith); saves_counted = h.saves_counted }
 
 pub returns : goal.returns
 unfolding meaning_of

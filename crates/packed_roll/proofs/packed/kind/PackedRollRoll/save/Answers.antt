@@ -16,7 +16,7 @@ invariant_of-self c =
     let s : Parts = saved_parts (parts_of p) in
     let P : ℕ → Type 0 = λ n. Holds (with_kept s n) in
     let h : P (p.kept + 1) = subst P (omega arith) (holds_save (parts_of p) (held_by p) l) in
-    record { long = h.long; few = h.few; clear = h.clear; counted = h.counted; saves_clear = h.saves_clear; saves_counted = h.saves_counted }
+    record { long = h.long; few = (h.few.0, omega arith); clear = h.clear; counted = h.counted; saves_clear = h.saves_clear; saves_counted = h.saves_counted }
 
 pub returns : goal.returns
 unfolding meaning_of

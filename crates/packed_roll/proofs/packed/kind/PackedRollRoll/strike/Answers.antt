@@ -76,11 +76,16 @@ invariant_of-self c =
     let ws : List ℕ = c.clear.new.self.bits in
     let h = standing p k (sym c.if-not-stands.ensures) in
     let e = written p k ws t.olds t.noted t.counts c.clear.ensures c.note.ensures.olds c.note.ensures.noted c.note.ensures.counts in
-    let s : Parts = struck_parts (parts_of p) k (olds_now p k) (noted_now p k) in
-    let P : ℕ → Type 0 = λ n. Holds (after_with p ws t.olds t.noted t.counts n) in
-    let z = holds_strike (parts_of p) k (olds_now p k) (noted_now p k) (held_by p) h.below h.marked (trail p k h.most) in
-    let h : P (p.count - 1) = subst Holds (sym e) z in
-    record { long = h.long; few = h.few; clear = h.clear; counted = h.counted; saves_clear = h.saves_clear; saves_counted = h.saves_counted }
+    let struck = holds_strike (parts_of p) k (olds_now p k) (noted_now p k) (held_by p) h.below h.marked (trail p k h.most) in
+    let held : Holds (after_with p ws t.olds t.noted t.counts (p.count - 1)) = subst Holds (sym e) struck in
+    record {
+      long = held.long;
+      few = held.few;
+      clear = held.clear;
+      counted = let w = held.counted in omega arith;
+      saves_clear = held.saves_clear;
+      saves_counted = held.saves_counted;
+    }
 
 pub returns : goal.returns
 unfolding meaning_of
