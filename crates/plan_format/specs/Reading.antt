@@ -1,5 +1,5 @@
 -- Reading a plan file front to back: the plan, or the first refusal, with its bit place.
-use Rattle.std.specs.Prelude.{ℕ, zero, suc, ◌+◌, ◌-◌, Bool, true, false, ◌&&◌, ltb, List, [], ◌∷◌, ◌++◌, length, drop, ◌==◌, nat_le, nat_lt, slice_index}
+use Rattle.std.specs.Prelude.{ℕ, zero, suc, ◌+◌, ◌-◌, Bool, true, false, ◌&&◌, List, [], ◌∷◌, ◌++◌, length, drop, ◌==◌, nat_le, nat_lt, slice_index}
 use Rattle.refusal.specs.declared.reason.Refusal.{Refusal}
 use Rattle.refusal.specs.declared.reason.Refusal.TheVariants.{CutShort, OutOfRange, NotAscending, TooManyRows, Unnamed, NotPadded}
 use Rattle.model.specs.Plan.{Plan, Table, rows_in}
@@ -65,7 +65,7 @@ header b p =
 abbrev pub setting : List ℕ → ℕ → List ℕ → ℕ → Read ℕ
 setting b n before p =
     number_below b n p then λ s q.
-    given (may_follow ltb before s) (NotAscending p) (got s q)
+    given (may_follow nat_lt before s) (NotAscending p) (got s q)
 
 -- the value for the next setting of the scope, after the values before it
 abbrev pub value : List ℕ → List ℕ → List ℕ → List ℕ → ℕ → Read ℕ

@@ -1,6 +1,6 @@
 ghost use Rattle.std.specs.Prelude.{◌≡◌, ◌*◌, ◌^◌, ◌<◌, ◌≤◌, length, slice_index};
 ghost use Rattle.plan_format.specs.Bits.{bits};
-ghost use Rattle.plan_format.specs.Reading.{number as number_of, number_below, ranged as ranged_of};
+ghost use Rattle.plan_format.specs.Reading.{number as number_reading, number_below, ranged as ranged_of};
 ghost use Rattle.plan_reader.specs.Outcomes.{Reads};
 
 use refusal::Refusal;
@@ -25,7 +25,7 @@ impl Reader<'_> {
     // The number of `width` bits.
     pub(crate) fn number(&mut self, width: u32) -> Result<u16, Refusal>
         requires { (width ≤ 16) × (self.old.place < 2 ^ 31) }
-        ensures { Reads (λ n. n) self.old self.new result (λ b. number_of b width) }
+        ensures { Reads (λ n. n) self.old self.new result (λ b. number_reading b width) }
     {
         let file = self.file;
         let place = self.place;

@@ -1,5 +1,4 @@
-// A number that its type decides. A contract cannot speak of an associated constant, but it can speak of the
-// type of one: so a kind of roll has its most as a constant of such a type.
+// A number that its type decides. A kind of roll has its most as a constant of such a type, of which contracts speak.
 ghost use Rattle.std.specs.Prelude.{◌≡◌, ℕ};
 
 // A type whose values all stand for one number.
