@@ -17,7 +17,7 @@ invariant_of-self c =
     let h = holds_back (parts_of p) K (held_by p) n in
     record {
       long = h.long;
-      few = h.few;
+      few = (h.few.0, (omega arith, h.few.1.1));
       placed = h.placed;
       listed = h.listed;
       counted = h.counted;

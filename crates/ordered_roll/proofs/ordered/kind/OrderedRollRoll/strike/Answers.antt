@@ -79,7 +79,7 @@ invariant_of-self c =
     let held : Holds (after_with p t.list t.place (p.count - 1)) = subst Holds (sym e) struck in
     record {
       long = held.long;
-      few = held.few;
+      few = (held.few.0, (held.few.1.0, omega arith));
       placed = held.placed;
       listed = held.listed;
       counted = let w = held.counted in omega arith;

@@ -21,7 +21,7 @@ invariant_of-self c =
     let e : word_in vs ≡ rewound p.trail.olds p.trail.noted K (word_in p.words.bits)
     = words_back p.trail.olds p.trail.noted p.words.bits vs K p.long.0 c.restore.ensures.long c.restore.ensures.words in
     let h = holds_back (parts_of p) vs K (held_by p) n e c.restore.ensures.long in
-    record { long = h.long; few = h.few; clear = h.clear; counted = h.counted; saves_clear = λ i l. h.saves_clear i (omega arith); saves_counted = h.saves_counted }
+    record { long = h.long; few = (h.few.0, omega arith); clear = h.clear; counted = h.counted; saves_clear = λ i l. h.saves_clear i (omega arith); saves_counted = h.saves_counted }
 
 pub returns : goal.returns
 unfolding meaning_of
