@@ -5,50 +5,36 @@ ghost use Rattle.plan_format.specs.Examples.{Examples};
 ghost use Rattle.plan_format.specs.Laws.{OneFile, OnePlan, ReadsExactly, ReadsNoFurther, RefusalsPlaced, RefusesTheRest};
 
 // The worked examples hold.
-pub fn examples_hold() -> u8
+pub fn examples_hold()
     ensures { Examples }
-{
-    0
-}
+{}
 
 // A file is read as a plan exactly where the plan keeps the rules and the file spells it.
-pub fn reads_exactly() -> u8
+pub fn reads_exactly()
     ensures { ReadsExactly }
-{
-    0
-}
+{}
 
 // A file is refused exactly where it is the file of no plan that keeps the rules.
-pub fn refuses_the_rest() -> u8
+pub fn refuses_the_rest()
     ensures { RefusesTheRest }
-{
-    0
-}
+{}
 
 // A file's refusal has a number from 1 to 6 and a bit place in the file.
-pub fn refusals_have_places() -> u8
+pub fn refusals_have_places()
     ensures { RefusalsPlaced }
-{
-    0
-}
+{}
 
 // The first 65,536 bytes of a file are enough.
-pub fn reads_no_further() -> u8
+pub fn reads_no_further()
     ensures { ReadsNoFurther }
-{
-    0
-}
+{}
 
 // A file is the file of at most one plan.
-pub fn has_one_plan() -> u8
+pub fn has_one_plan()
     ensures { OnePlan }
-{
-    0
-}
+{}
 
 // A plan has exactly one file.
-pub fn has_one_file() -> u8
+pub fn has_one_file()
     ensures { OneFile }
-{
-    0
-}
+{}

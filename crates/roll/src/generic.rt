@@ -4,7 +4,6 @@ ghost use Rattle.roll.specs.Calls.{after_begin_both, begin_both_answer};
 ghost use Rattle.roll.specs.Meaning.{stood_of, struck_all};
 
 use crate::interface::Roll;
-use crate::limit::Limit;
 use refusal::Refusal;
 
 // Begins the one roll with n numbers and the other with k, or neither: both sizes are compared with the
@@ -15,11 +14,11 @@ pub fn begin_both<R: Roll, V: Roll>(
     n: u32,
     k: u32,
 ) -> Result<(), Refusal>
-    ensures answer { result ≡ begin_both_answer R.Roll.most V.Roll.most n k }
-    ensures rows { R.Roll.meaning rows.new ≡ after_begin_both R.Roll.most V.Roll.most n k n (R.Roll.meaning rows.old) }
-    ensures values { V.Roll.meaning values.new ≡ after_begin_both R.Roll.most V.Roll.most n k k (V.Roll.meaning values.old) }
+    ensures answer { result ≡ begin_both_answer R.Roll.MOST V.Roll.MOST n k }
+    ensures rows { R.Roll.meaning rows.new ≡ after_begin_both R.Roll.MOST V.Roll.MOST n k n (R.Roll.meaning rows.old) }
+    ensures values { V.Roll.meaning values.new ≡ after_begin_both R.Roll.MOST V.Roll.MOST n k k (V.Roll.meaning values.old) }
 {
-    if n > R::MOST.get() || k > V::MOST.get() {
+    if n > R::MOST || k > V::MOST {
         return Err(Refusal::AboveMost);
     }
     rows.begin(n)?;
@@ -32,8 +31,8 @@ pub fn strike_all<R: Roll>(roll: &mut R, numbers: &[u32]) -> u32
     ensures after { R.Roll.meaning roll.new ≡ struck_all (R.Roll.meaning roll.old) numbers.now }
 {
     let mut stood = 0;
-    for i in 0..numbers.len() {
-        if roll.strike(numbers[i]) {
+    for k in numbers {
+        if roll.strike(*k) {
             stood += 1;
         }
     }

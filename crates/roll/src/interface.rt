@@ -2,19 +2,16 @@ ghost use Rattle.std.specs.Prelude.{◌≡◌, ℕ, ◌≤◌};
 ghost use Rattle.roll.specs.Calls.{after_back, after_begin, after_save, back_answer, begin_answer, save_answer};
 ghost use Rattle.roll.specs.Meaning.{Meaning, Sound, begun, first_at, kept_of, size_of, standing, stands_at, struck};
 
-use crate::limit::Limit;
 use refusal::Refusal;
 
 // A roll: a size, which of the numbers below it stand, and saves of that to go back to. The ghost member
 // `meaning` says what a roll means, and every contract speaks of it alone, so that what is built on rolls is
 // proved once for every kind.
 pub trait Roll {
-    type Most: Limit + Drop;
-
     // The greatest size that the kind takes.
-    const MOST: Self::Most;
+    const MOST: u32;
 
-    ghost most: { ℕ };
+    ghost MOST: { ℕ };
 
     ghost meaning: { Self → Meaning };
 
@@ -26,8 +23,8 @@ pub trait Roll {
 
     // Begins anew with n numbers, all standing. Declined where n is above the most.
     fn begin(&mut self, n: u32) -> Result<(), Refusal>
-        ensures answer { result ≡ begin_answer most n }
-        ensures after { meaning self.new ≡ after_begin most n (meaning self.old) };
+        ensures answer { result ≡ begin_answer MOST n }
+        ensures after { meaning self.new ≡ after_begin MOST n (meaning self.old) };
 
     // Takes k out, and answers whether it stood. A number at or above the size does not stand.
     fn strike(&mut self, k: u32) -> bool
@@ -66,10 +63,8 @@ pub trait Roll {
         ensures answer { result ≡ back_answer (meaning self.old) }
         ensures after { meaning self.new ≡ after_back (meaning self.old) };
 
-    ghost same: { Self.Most.Limit.limit ≡ most };
-
-    ghost few: { most ≤ 65535 };
+    ghost few: { MOST ≤ 65535 };
 
     // What is true of every roll's meaning.
-    ghost sound: { (x : Self) → Sound most (meaning x) };
+    ghost sound: { (x : Self) → Sound MOST (meaning x) };
 }

@@ -7,50 +7,36 @@ ghost use Rattle.roll.specs.Laws.{BackUndoes, CountsStanding, FirstIsLowest, Ref
 
 mod generic;
 mod interface;
-mod limit;
 
 pub use generic::{begin_both, strike_all};
 pub use interface::Roll;
-pub use limit::{Exactly, Limit};
 
 // Back undoes what was struck since the save.
-pub fn back_undoes() -> u8
+pub fn back_undoes()
     ensures { BackUndoes }
-{
-    0
-}
+{}
 
 // How many stand is the number of those that stand.
-pub fn counts_standing() -> u8
+pub fn counts_standing()
     ensures { CountsStanding }
-{
-    0
-}
+{}
 
 // The worked examples hold.
-pub fn examples_hold() -> u8
+pub fn examples_hold()
     ensures { Examples }
-{
-    0
-}
+{}
 
 // The first number from a place on is the lowest of those that stand there.
-pub fn first_is_lowest() -> u8
+pub fn first_is_lowest()
     ensures { FirstIsLowest }
-{
-    0
-}
+{}
 
 // Which calls are declined, with which number; a declined call alters nothing.
-pub fn refusals_numbered() -> u8
+pub fn refusals_numbered()
     ensures { RefusalsNumbered }
-{
-    0
-}
+{}
 
 // Strikes take out just the numbers struck.
-pub fn strikes_exactly() -> u8
+pub fn strikes_exactly()
     ensures { StrikesExactly }
-{
-    0
-}
+{}

@@ -13,33 +13,33 @@ overflow_add-stood g c =
     let s = standing_most m0 in
     let f = (g.met.R.Roll.sound c.args.roll.now).fits in
     let most = g.met.R.Roll.few in
-    let e = c.loop-i.invariant.1 in
+    let e = c.loop-k.invariant.1 in
     omega arith
 
-pub loop-i-preserved : goal.loop-i-preserved
-loop-i-preserved g c =
-    let m : Meaning = g.R.Roll.meaning c.loop-i.roll in
+pub loop-k-preserved : goal.loop-k-preserved
+loop-k-preserved g c =
+    let m : Meaning = g.R.Roll.meaning c.loop-k.roll in
     let ks : List ℕ = c.args.numbers.now in
-    let k : ℕ = get_or ks c.loop-i.i 0 in
+    let k : ℕ = get_or ks c.loop-k.k-index 0 in
     let n : ℕ = standing (g.R.Roll.meaning c.args.roll.now) in
     let e : g.R.Roll.meaning c.strike.new.self ≡ struck m k = c.strike.ensures.after in (
-      ap (λ x. struck_all x (drop (c.loop-i.i + 1) ks)) e ∙ struck_next m ks c.loop-i.i c.loop-i-test.true ∙ c.loop-i.invariant.0,
+      ap (λ x. struck_all x (drop (c.loop-k.k-index + 1) ks)) e ∙ struck_next m ks c.loop-k.k-index c.loop-k-test.true ∙ c.loop-k.invariant.0,
       ap (λ x. c.if-strike.stood + standing x) e
           ∙ elim c.if-strike.branch [
             | then-strike w ↦
                 ap (λ x. x + standing (struck m k)) w.stood-is
-                ∙ stood_next m k c.loop-i.stood n c.loop-i.invariant.1 (sym c.strike.ensures.answer ∙ w.if-strike.true)
+                ∙ stood_next m k c.loop-k.stood n c.loop-k.invariant.1 (sym c.strike.ensures.answer ∙ w.if-strike.true)
             | else-strike w ↦
                 ap (λ x. x + standing (struck m k)) w.stood-is
-                ∙ out_next m k c.loop-i.stood n c.loop-i.invariant.1 (sym c.strike.ensures.answer ∙ w.if-strike.false)
+                ∙ out_next m k c.loop-k.stood n c.loop-k.invariant.1 (sym c.strike.ensures.answer ∙ w.if-strike.false)
           ],
     )
 
 pub returns : goal.returns
 returns g c =
-    let m : Meaning = g.R.Roll.meaning c.loop-i.roll in
+    let m : Meaning = g.R.Roll.meaning c.loop-k.roll in
     let ks : List ℕ = c.args.numbers.now in
     let m0 : Meaning = g.R.Roll.meaning c.args.roll.now in
-    let e : m ≡ struck_all m0 ks = sym (ap (struck_all m) (drop_all c.loop-i.i ks c.loop-i-test.false)) ∙ c.loop-i.invariant.0 in
-    let f : c.loop-i.stood + standing (struck_all m0 ks) ≡ standing m0 = ap (λ x. c.loop-i.stood + standing x) (sym e) ∙ c.loop-i.invariant.1 in
+    let e : m ≡ struck_all m0 ks = sym (ap (struck_all m) (drop_all c.loop-k.k-index ks c.loop-k-test.false)) ∙ c.loop-k.invariant.0 in
+    let f : c.loop-k.stood + standing (struck_all m0 ks) ≡ standing m0 = ap (λ x. c.loop-k.stood + standing x) (sym e) ∙ c.loop-k.invariant.1 in
     record { answer = omega arith; after = e }

@@ -3,7 +3,7 @@ use Rattle.roll.specs.Meaning.{standing, struck_all}
 use Rattle.roll.proofs.generic.strike_all.Given as goal
 
 -- striking those to come leaves what striking all leaves, and those that stood so far stand no more
-abbrev pub invariant-loop-i : goal.invariant-loop-i
-invariant-loop-i g l =
-    (struck_all (g.R.Roll.meaning l.roll) (drop l.i l.numbers) ≡ struck_all (g.R.Roll.meaning l.initial.roll) l.numbers)
+abbrev pub invariant-loop-k : goal.invariant-loop-k
+invariant-loop-k g l =
+    (struck_all (g.R.Roll.meaning l.roll) (drop l.k-index l.numbers) ≡ struck_all (g.R.Roll.meaning l.initial.roll) l.numbers)
     × (l.stood + standing (g.R.Roll.meaning l.roll) ≡ standing (g.R.Roll.meaning l.initial.roll))
