@@ -1,7 +1,8 @@
 -- Items that are good after those before them, in the words of the rules.
-use Rattle.std.proofs.Common.{◌≡◌, ℕ, suc, ◌+◌, ◌<◌, ◌≤◌, Bool, true, List, [], ◌∷◌, ◌++◌, map, length, get_or, sym, refl, ap, ◌∙◌, subst, arith}
-use Rattle.std.proofs.lemmas.List.{length_push, map_push}
-use Rattle.model.specs.Plan.{Table, sum, height, rows_in}
+use Rattle.std.proofs.Common.{◌≡◌, ℕ, suc, ◌+◌, ◌<◌, ◌≤◌, Bool, true, List, [], ◌∷◌, ◌++◌, length, get_or, sym, refl, ap, ◌∙◌, subst, arith}
+use Rattle.std.proofs.lemmas.List.{length_push}
+use Rattle.std.proofs.lemmas.List.Sums.{sum_by_push, sum_by-cons}
+use Rattle.model.specs.Plan.{Table, height, rows_in}
 use Rattle.model.specs.Rules.{Each, Ascending, Fits, TableRules}
 use Rattle.model.specs.Tests.{Decides}
 use Rattle.plan_format.specs.Reading.{may_follow}
@@ -102,25 +103,23 @@ fits_length counts (s ∷ ss) (v ∷ vs) h = ap suc (fits_length counts ss vs h.
 abbrev pub GoodTable : List ℕ → List Table → Table → Type 0
 GoodTable counts before t = TableRules counts t × (rows_in before + height t ≤ 4096)
 
-sum_push : (xs : List ℕ) (x : ℕ) → sum (xs ++ x ∷ []) ≡ sum xs + x
-sum_push [] x = omega arith
-sum_push (y ∷ ys) x = let h = sum_push ys x in omega arith
-
 pub rows_push : (ts : List Table) (t : Table) → rows_in (ts ++ t ∷ []) ≡ rows_in ts + height t
-rows_push ts t = ap sum (map_push height ts t) ∙ sum_push (map height ts) (height t)
+rows_push = sum_by_push height
 
 module _ (counts : List ℕ) where
   good_from : (before ts : List Table) → rows_in before ≤ 4096 → Chain (GoodTable counts) before ts → Each (TableRules counts) ts × (rows_in before + rows_in ts ≤ 4096)
   good_from before [] l c = (tt, omega arith)
   good_from before (t ∷ ts) l c =
       let e = rows_push before t in
+      let f = sum_by-cons height t ts in
       let i = good_from (before ++ t ∷ []) ts (omega (arith, e, c.0.1)) c.1 in
-      ((c.0.0, i.0), omega (arith, e, i.1))
+      ((c.0.0, i.0), omega (arith, e, f, i.1))
 
   good_to : (before ts : List Table) → Each (TableRules counts) ts → rows_in before + rows_in ts ≤ 4096 → Chain (GoodTable counts) before ts
   good_to before [] h l = tt
   good_to before (t ∷ ts) h l =
       let e = rows_push before t in
+      let f = sum_by-cons height t ts in
       ((h.0, omega arith), good_to (before ++ t ∷ []) ts h.1 (omega arith))
 
   pub tables_from : (ts : List Table) → Chain (GoodTable counts) [] ts → Each (TableRules counts) ts × (rows_in ts ≤ 4096)
