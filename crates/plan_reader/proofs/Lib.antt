@@ -1,7 +1,7 @@
 pub mod FileLaws
-pub mod Listed
+pub mod Following
 pub mod MarkLaws
 pub mod PaddingLaws
-pub mod RepeatLaws
+pub mod ReadLaws
 pub mod RowLaws
 pub mod TableLaws

@@ -1,5 +1,5 @@
 pub mod Checking
 pub mod Outcomes
-pub mod Lists
+pub mod Rows
 pub mod Marks
 pub mod Heads

@@ -9,14 +9,14 @@ use Rattle.plan_reader.specs.declared.reader.Reader.{Reader}
 abbrev pub at : {A : Type 0} → Reader → (List ℕ → ℕ → Read A) → Read A
 at reader reading = reading (bits reader.file.now) reader.place
 
--- the answer r, where Ok a stands for what f makes of a, and q is the place after it
-abbrev pub outcome : {A B : Type 0} → (A → B) → Result A Refusal → ℕ → Read B
-outcome f (Ok a) q = got (f a) q
-outcome f (Err e) q = refused e
+-- the answer r, where q is the place after what was read
+abbrev pub outcome : {A : Type 0} → Result A Refusal → ℕ → Read A
+outcome (Ok a) q = got a q
+outcome (Err e) q = refused e
 
--- a call that takes the reader from `before` to `after` answers r, which is f of what the reading gives
-pub record Reads {A B : Type 0} (f : A → B) (before after : Reader) (r : Result A Refusal) (reading : List ℕ → ℕ → Read B) : Type 0 where
-  pub reads : outcome f r after.place ≡ at before reading
+-- a call that takes the reader from `before` to `after` answers r, which is what the reading gives
+pub record Reads {A : Type 0} (before after : Reader) (r : Result A Refusal) (reading : List ℕ → ℕ → Read A) : Type 0 where
+  pub reads : outcome r after.place ≡ at before reading
   pub same : after.file.now ≡ before.file.now
 
 -- the answer r to a reading of which not all is kept, with the place q after it: `Kept` says what is

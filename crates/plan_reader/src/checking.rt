@@ -1,24 +1,27 @@
-ghost use Rattle.std.specs.Prelude.{◌≡◌};
+ghost use Rattle.std.specs.Prelude.{◌≡◌, ◌≤◌, length};
 ghost use Rattle.plan_format.specs.Reading.{read};
 ghost use Rattle.plan_reader.specs.Checking.{answer, Judges, numbers_of};
 
-use crate::body::is_padded;
 use crate::numbers::Numbers;
 use crate::reader::Reader;
 use refusal::Refusal;
 
+// More bytes than any plan file has. No more of a file is looked at: `plan_format::reads_no_further` says that
+// nothing depends on it.
+const MOST: usize = 65_536;
+
 // Reads a file front to back.
 fn judge(file: &[u8]) -> Result<Numbers, Refusal>
+    requires { length file.now ≤ MOST }
     ensures { result ≡ answer numbers_of (read file.now) }
 {
-    let mut reader = Reader { file, place: 0 };
+    let mut reader = Reader::new(file);
     let plan = reader.body()?;
-    let place = reader.place;
     if !plan.named.has_all(plan.counts.len()) {
-        return Err(Refusal::Unnamed(place));
+        return Err(Refusal::Unnamed(reader.place()));
     }
-    if !is_padded(file, place) {
-        return Err(Refusal::NotPadded(place));
+    if !reader.is_padded() {
+        return Err(Refusal::NotPadded(reader.place()));
     }
     let rows = u32::from(plan.rows);
     Ok(Numbers {
@@ -35,5 +38,5 @@ pub fn check(file: &[u8]) -> Result<Numbers, Refusal>
     ensures answers { result ≡ answer numbers_of (read file.now) }
     ensures judges { Judges file.now result }
 {
-    judge(file)
+    judge(&file[..MOST.min(file.len())])
 }

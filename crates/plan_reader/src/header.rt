@@ -1,33 +1,30 @@
-ghost use Rattle.std.specs.Prelude.{◌^◌, ◌<◌, ◌≤◌};
-ghost use Rattle.plan_format.specs.Reading.{header as header_of, ranged as ranged_of, repeat};
-ghost use Rattle.plan_reader.specs.Lists.{listed};
+ghost use Rattle.plan_format.specs.Reading.{header as header_of, ranged as ranged_of};
 ghost use Rattle.plan_reader.specs.Outcomes.{Reads};
 
+use crate::items::Item;
 use crate::reader::Reader;
 use crate::short_list::ShortList;
 use refusal::Refusal;
 
-impl Reader<'_> {
-    // The value counts of `n` settings.
-    fn counts(&mut self, n: u16) -> Result<ShortList, Refusal>
-        requires { (n ≤ 32) × (self.old.place < 2 ^ 30) }
-        ensures { Reads listed self.old self.new result (λ b. repeat (λ _. ranged_of b 6 1 32) n) }
-    {
-        let mut counts = ShortList::new();
-        for _ in 0..n {
-            let count = self.ranged(6, 1, 32)?;
-            counts.push(count as u8);
-        }
-        Ok(counts)
-    }
+// How many values a setting has.
+struct ValueCount;
 
+impl Item for ValueCount {
+    ghost reading = { λ _ b _. ranged_of b 6 1 32 };
+
+    fn read(&self, reader: &mut Reader<'_>, _before: &ShortList) -> Result<u8, Refusal> {
+        let count = reader.ranged(6, 1, 32)?;
+        Ok(count as u8)
+    }
+}
+
+impl Reader<'_> {
     // Edition, setting count and value counts.
     pub(crate) fn header(&mut self) -> Result<ShortList, Refusal>
-        requires { self.old.place < 2 ^ 29 }
-        ensures { Reads listed self.old self.new result header_of }
+        ensures { Reads self.old self.new result header_of }
     {
         self.ranged(8, 1, 1)?;
         let n = self.ranged(6, 1, 32)?;
-        self.counts(n)
+        self.list(&ValueCount, n)
     }
 }

@@ -4,6 +4,7 @@
 mod body;
 mod checking;
 mod header;
+mod items;
 mod named;
 mod numbers;
 mod reader;

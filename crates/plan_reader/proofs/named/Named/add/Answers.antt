@@ -2,7 +2,7 @@ use Rattle.std.proofs.Common.{◌≡◌, ◌+◌, ◌||◌, eqb, get_or, drop, s
 use Rattle.std.proofs.lemmas.List.{at_drop_more, at_drop_all}
 use Rattle.model.specs.Tests.{any}
 use Rattle.plan_reader.specs.Marks.{marked}
-use Rattle.plan_reader.proofs.MarkLaws.{or_assoc, or_false}
+use Rattle.std.proofs.Math.Bool.{or-false, or_assoc}
 use Rattle.plan_reader.proofs.named.Named.add.Goals as goal
 
 pub loop-setting-preserved : goal.loop-setting-preserved
@@ -19,4 +19,4 @@ loop-setting-preserved c s h =
 pub returns : goal.returns
 returns c s h =
     let d = at_drop_all (any (eqb s)) c.args.scope.now c.loop-setting.setting-index (omega arith) in
-    sym (or_false (marked c.loop-setting.self s)) ∙ ap (λ r. marked c.loop-setting.self s || r) (sym d) ∙ c.loop-setting.invariant s h
+    sym (or-false (marked c.loop-setting.self s)) ∙ ap (λ r. marked c.loop-setting.self s || r) (sym d) ∙ c.loop-setting.invariant s h

@@ -1,0 +1,91 @@
+ghost use Rattle.std.specs.Prelude.{◌≡◌, ◌*◌, ◌<◌, ◌≤◌, length, slice_index};
+ghost use Rattle.plan_format.specs.Bits.{bits};
+ghost use Rattle.plan_format.specs.Reading.{number as number_of, number_below, padded, ranged as ranged_of};
+ghost use Rattle.plan_reader.specs.Outcomes.{Reads};
+
+use crate::reader::Reader;
+use refusal::Refusal;
+
+impl<'a> Reader<'a> {
+    // At the front of a file.
+    pub(crate) fn new(file: &'a [u8]) -> Self
+        requires { length file.now ≤ 65536 }
+        ensures file { result.file.now ≡ file.now }
+        ensures place { result.place ≡ 0 }
+    {
+        Reader { file, place: 0 }
+    }
+
+    pub(crate) fn place(&self) -> u32
+        ensures { result ≡ self.now.place }
+    {
+        self.place
+    }
+
+    // The place after the last bit.
+    fn end(&self) -> u32
+        ensures { result ≡ 8 * length self.now.file.now }
+    {
+        8 * (self.file.len() as u32)
+    }
+
+    // The bit at a place of the file.
+    fn bit(&self, place: u32) -> u8
+        requires { place < 8 * length self.now.file.now }
+        ensures { result ≡ slice_index (bits self.now.file.now) place }
+    {
+        let byte = self.file[(place / 8) as usize];
+        byte >> (7 - place % 8) & 1
+    }
+
+    // The number of `width` bits.
+    pub(crate) fn number(&mut self, width: u32) -> Result<u16, Refusal>
+        requires { width ≤ 16 }
+        ensures { Reads self.old self.new result (λ b. number_of b width) }
+    {
+        let place = self.place;
+        let after = place + width;
+        if after > self.end() {
+            return Err(Refusal::CutShort(place));
+        }
+        let mut value: u16 = 0;
+        for p in place..after {
+            value = value * 2 + u16::from(self.bit(p));
+        }
+        self.place = after;
+        Ok(value)
+    }
+
+    // The number of `width` bits, from `low` to `high`.
+    pub(crate) fn ranged(&mut self, width: u32, low: u16, high: u16) -> Result<u16, Refusal>
+        requires { width ≤ 16 }
+        ensures { Reads self.old self.new result (λ b. ranged_of b width low high) }
+    {
+        let place = self.place;
+        let value = self.number(width)?;
+        if value < low || value > high {
+            return Err(Refusal::OutOfRange(place));
+        }
+        Ok(value)
+    }
+
+    // The number of 5 bits, below `n`.
+    pub(crate) fn below(&mut self, n: u8) -> Result<u8, Refusal>
+        ensures { Reads self.old self.new result (λ b. number_below b n) }
+    {
+        let place = self.place;
+        let value = self.number(5)?;
+        if value >= u16::from(n) {
+            return Err(Refusal::OutOfRange(place));
+        }
+        Ok(value as u8)
+    }
+
+    // Whether fewer than eight bits follow, all 0.
+    pub(crate) fn is_padded(&self) -> bool
+        ensures { result ≡ padded (bits self.now.file.now) self.now.place }
+    {
+        let end = self.end();
+        end - self.place < 8 && (self.place..end).all(|p| self.bit(p) == 0)
+    }
+}
