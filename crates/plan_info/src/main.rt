@@ -17,20 +17,13 @@ fn read_plan(rt: &HostRuntime) -> io::Result<Vec<u8>> {
         Ok(file) => {
             file.take(MOST).read_to_end(&mut bytes)?;
         }
-        Err(e) => {
-            if e.kind() != ErrorKind::NotFound {
-                return Err(e);
-            }
-        }
+        Err(e) if e.kind() == ErrorKind::NotFound => {}
+        Err(e) => return Err(e),
     }
     Ok(bytes)
 }
 
-fn run(rt: &HostRuntime) -> io::Result<()> {
-    let file = read_plan(rt)?;
-    rt.print(report(rt.alloc(), file.as_slice())?)
-}
-
 fn main(rt: HostRuntime) -> io::Result<()> {
-    run(&rt)
+    let file = read_plan(&rt)?;
+    rt.print(report(rt.alloc(), file.as_slice())?)
 }

@@ -1,3 +1,5 @@
+ghost use Rattle.std.specs.Prelude.{◌<◌, ◌≤◌, length};
+
 use plan_reader::{Numbers, check};
 use refusal::Refusal;
 use std::alloc::{AllocError, Global};
@@ -22,40 +24,33 @@ pub(crate) fn accepted(settings: u32, tables: u32, rows: u32, values: u32, cells
     })
 }
 
+// Eight bits as one byte, the first as its most significant bit. Where there are fewer, zero bits
+// follow them.
+fn byte_of(bits: &[bool]) -> u8 {
+    (0..8).fold(
+        0,
+        |byte, i| byte << 1 | u8::from(bits.get(i) == Some(&true)),
+    )
+}
+
 // A file that is built from numbers, most significant bit first.
 #[derive(Drop)]
 pub(crate) struct FileBits {
-    bytes: Vec<u8>,
-    // The bits after the last whole byte, and how many there are.
-    rest: u8,
-    used: u8,
+    bits: Vec<bool>,
 }
 
 impl FileBits {
     pub(crate) fn new(heap: Global) -> Self {
         FileBits {
-            bytes: Vec::new(heap),
-            rest: 0,
-            used: 0,
+            bits: Vec::new(heap),
         }
     }
 
-    fn bit(&mut self, one: bool) -> Result<(), AllocError> {
-        self.rest = self.rest.wrapping_mul(2) | u8::from(one);
-        self.used = self.used.wrapping_add(1);
-        if self.used == 8 {
-            self.bytes.push(self.rest)?;
-            self.rest = 0;
-            self.used = 0;
-        }
-        Ok(())
-    }
-
-    pub(crate) fn number(&mut self, width: u32, value: u16) -> Result<(), AllocError> {
-        for i in (0..width).rev() {
-            self.bit(value.rotate_right(i) & 1 == 1)?;
-        }
-        Ok(())
+    pub(crate) fn number(&mut self, width: u32, value: u16) -> Result<(), AllocError>
+        requires { width ≤ 16 }
+    {
+        self.bits
+            .extend((0..width).rev().map(|i| value >> i & 1 == 1))
     }
 
     // Numbers of 5 bits: setting numbers or values.
@@ -82,8 +77,10 @@ impl FileBits {
     }
 
     // A table up to its row count.
-    pub(crate) fn table(&mut self, scope: &[u16], rows: u16) -> Result<(), AllocError> {
-        self.number(4, (scope.len() & 15) as u16)?;
+    pub(crate) fn table(&mut self, scope: &[u16], rows: u16) -> Result<(), AllocError>
+        requires { length scope.now < 16 }
+    {
+        self.number(4, scope.len() as u16)?;
         self.numbers(scope)?;
         self.number(10, rows)
     }
@@ -97,13 +94,10 @@ impl FileBits {
         Ok(())
     }
 
-    // Pads the file and checks it.
-    pub(crate) fn checked(mut self) -> Result<Answer, AllocError> {
-        for _ in 0..7 {
-            if self.used != 0 {
-                self.bit(false)?;
-            }
-        }
-        Ok(check(self.bytes.as_slice()))
+    // Checks the file, padded to whole bytes.
+    pub(crate) fn checked(&self) -> Result<Answer, AllocError> {
+        let heap = *self.bits.allocator();
+        let bytes: Vec<u8> = self.bits.chunks(8).map(byte_of).collect(heap)?;
+        Ok(check(bytes.as_slice()))
     }
 }

@@ -1,6 +1,8 @@
 // Files that are no plan files, and why.
+ghost use Rattle.std.specs.Prelude.{◌<◌, length};
+
 use crate::files::{Answer, FileBits, P, accepted};
-use plan_reader::check as check_file;
+use plan_reader::check;
 use refusal::Refusal;
 use std::alloc::{AllocError, Global};
 use std::test::Fail;
@@ -13,10 +15,9 @@ const CUTS: [u32; 21] = [
 #[test]
 fn cut_short(rt: HostRuntime) {
     for (bytes, place) in CUTS.iter().enumerate() {
-        assert!(rt; bytes <= 21);
-        assert_eq!(rt; check_file(&P[0..bytes]), Err(Refusal::CutShort(*place)));
+        assert_eq!(rt; check(&P[..bytes]), Err(Refusal::CutShort(*place)));
     }
-    assert_eq!(rt; check_file(&P), accepted(3, 2, 6, 6, 48));
+    assert_eq!(rt; check(&P), accepted(3, 2, 6, 6, 48));
 }
 
 #[test]
@@ -24,13 +25,13 @@ fn not_padded(rt: HostRuntime) -> Result<(), Fail> {
     for last in [0x09, 0x0C, 0x0A] {
         let mut file = P;
         file[20] = last;
-        assert_eq!(rt; check_file(&file), Err(Refusal::NotPadded(165)));
+        assert_eq!(rt; check(&file), Err(Refusal::NotPadded(165)));
     }
     let mut longer = P.to_vec(rt.alloc())?;
     longer.push(0)?;
-    assert_eq!(rt; check_file(longer.as_slice()), Err(Refusal::NotPadded(165)));
+    assert_eq!(rt; check(longer.as_slice()), Err(Refusal::NotPadded(165)));
     longer.push(1)?;
-    assert_eq!(rt; check_file(longer.as_slice()), Err(Refusal::NotPadded(165)));
+    assert_eq!(rt; check(longer.as_slice()), Err(Refusal::NotPadded(165)));
     Ok(())
 }
 
@@ -59,10 +60,13 @@ fn byte_after_whole_bytes(rt: HostRuntime) -> Result<(), Fail> {
 }
 
 // One table on settings of three values each, with rows for three of them.
-fn table_of_three(heap: Global, scope: &[u16], rows: &[[u16; 3]]) -> Result<Answer, AllocError> {
+fn table_of_three(heap: Global, scope: &[u16], rows: &[[u16; 3]]) -> Result<Answer, AllocError>
+    requires few_settings { length scope.now < 16 }
+    requires few_rows { length rows.now < 1024 }
+{
     let mut bits = FileBits::new(heap);
     bits.header(3, 3, 1)?;
-    bits.table(scope, (rows.len() & 511) as u16)?;
+    bits.table(scope, rows.len() as u16)?;
     for row in rows {
         bits.numbers(row)?;
     }

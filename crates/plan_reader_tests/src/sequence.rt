@@ -1,6 +1,6 @@
 // Files with several faults: the first in the sequence is told.
 use crate::files::{Answer, FileBits};
-use plan_reader::check as check_file;
+use plan_reader::check;
 use refusal::Refusal;
 use std::alloc::{AllocError, Global};
 use std::test::Fail;
@@ -14,7 +14,7 @@ fn first_number_first(rt: HostRuntime) {
         (1, 255, Refusal::OutOfRange(8)),
         (1, 4, Refusal::CutShort(14)),
     ] {
-        assert_eq!(rt; check_file(&[first, second]), Err(expected));
+        assert_eq!(rt; check(&[first, second]), Err(expected));
     }
 }
 

@@ -1,10 +1,10 @@
 -- The lines that tell what a file is.
-use Rattle.std.specs.Prelude.{ℕ, List, ◌++◌, Some, None, codes, decimal, Option}
+use Rattle.std.specs.Prelude.{ℕ, List, ◌++◌, Some, None, Ok, Err, codes, decimal, Option, Result}
 use Rattle.refusal.specs.declared.reason.Refusal.{Refusal}
 use Rattle.refusal.specs.Refusals.{number_of, place_of, words_of}
 use Rattle.model.specs.Plan.{Plan}
-use Rattle.plan_format.specs.Reading.{Read, got, refused}
-use Rattle.plan_reader.specs.Checking.{numbers_of}
+use Rattle.plan_format.specs.Reading.{Read}
+use Rattle.plan_reader.specs.Checking.{answer, numbers_of}
 use Rattle.plan_reader.specs.declared.numbers.Numbers.{Numbers}
 
 -- a plan file: its numbers, each on a line of its own
@@ -22,13 +22,16 @@ place_text (Some p) rest = codes "\nbit place: " ++ (decimal p ++ rest)
 place_text None rest = rest
 
 -- no plan file: the refusal's number, its bit place, and in words what is wrong there
-abbrev pub lines_of : ℕ → Option ℕ → List ℕ → List ℕ
-lines_of number place words = codes "no plan file\nrefusal: " ++ (decimal number ++ place_text place (codes "\n" ++ (words ++ codes "\n")))
-
 abbrev pub refusal_text : Refusal → List ℕ
-refusal_text e = lines_of (number_of e) (place_of e) (words_of e)
+refusal_text e =
+    codes "no plan file\nrefusal: " ++ (decimal (number_of e)
+    ++ place_text (place_of e) (codes "\n" ++ (words_of e ++ codes "\n")))
+
+-- the text of what checking a file answers
+abbrev pub answer_text : Result Numbers Refusal → List ℕ
+answer_text (Ok ns) = numbers_text ns
+answer_text (Err e) = refusal_text e
 
 -- what reading a file gives, as text
 abbrev pub report_text : Read Plan → List ℕ
-report_text (got p q) = numbers_text (numbers_of p)
-report_text (refused e) = refusal_text e
+report_text r = answer_text (answer numbers_of r)

@@ -1,39 +1,46 @@
 // What is told of a file: that it is a plan file and how large its plan is, or why it is none.
 #![tactic(auto)]
 
-ghost use Rattle.std.specs.Prelude.{◌≡◌, IfOk, string_bytes};
+ghost use Rattle.std.specs.Prelude.{◌≡◌, IfOk, Some, string_bytes};
 ghost use Rattle.plan_format.specs.Reading.{read};
-ghost use Rattle.plan_report.specs.Report.{numbers_text, refusal_text, report_text};
+ghost use Rattle.plan_report.specs.Report.{answer_text, report_text};
 
 use plan_reader::{Numbers, check};
 use refusal::Refusal;
 use std::alloc::{AllocError, Global};
+use std::fmt;
 
-// The lines for a plan file.
-fn tell_numbers(heap: Global, numbers: Numbers) -> Result<String, AllocError>
-    ensures { IfOk result (λ text. string_bytes text ≡ numbers_text numbers) }
-{
-    let settings = numbers.settings;
-    let tables = numbers.tables;
-    let rows = numbers.rows;
-    let values = numbers.values;
-    let cells = numbers.cells;
-    format!(in heap;
-        "a plan file\nsettings: {settings}\ntables: {tables}\nrows: {rows}\nvalues: {values}\ncells to reserve: {cells}\n"
-    )
-}
+// What checking a file answers, shown in lines for people.
+#[derive(Drop)]
+struct Answer(Result<Numbers, Refusal>);
 
-// The lines for a refusal.
-fn tell_refusal(heap: Global, refusal: Refusal) -> Result<String, AllocError>
-    ensures { IfOk result (λ text. string_bytes text ≡ refusal_text refusal) }
-{
-    let number = refusal.number();
-    let words = refusal.words();
-    match refusal.place() {
-        Some(place) => format!(in heap;
-            "no plan file\nrefusal: {number}\nbit place: {place}\n{words}\n"
-        ),
-        None => format!(in heap; "no plan file\nrefusal: {number}\n{words}\n"),
+impl fmt::Display for Answer {
+    ghost output = { λ answer. Some (answer_text answer.0) };
+
+    fn fmt<W: fmt::Write>(&self, f: &mut fmt::Formatter<W>) -> fmt::Result {
+        match self.0 {
+            Ok(numbers) => {
+                let Numbers {
+                    settings,
+                    tables,
+                    rows,
+                    values,
+                    cells,
+                } = numbers;
+                write!(
+                    f,
+                    "a plan file\nsettings: {settings}\ntables: {tables}\nrows: {rows}\nvalues: {values}\ncells to reserve: {cells}\n"
+                )
+            }
+            Err(refusal) => {
+                let number = refusal.number();
+                write!(f, "no plan file\nrefusal: {number}")?;
+                if let Some(place) = refusal.place() {
+                    write!(f, "\nbit place: {place}")?;
+                }
+                write!(f, "\n{refusal}\n")
+            }
+        }
     }
 }
 
@@ -41,10 +48,7 @@ fn tell_refusal(heap: Global, refusal: Refusal) -> Result<String, AllocError>
 pub fn report(heap: Global, file: &[u8]) -> Result<String, AllocError>
     ensures { IfOk result (λ text. string_bytes text ≡ report_text (read file.now)) }
 {
-    match check(file) {
-        Ok(numbers) => tell_numbers(heap, numbers),
-        Err(refusal) => tell_refusal(heap, refusal),
-    }
+    Answer(check(file)).to_string(heap)
 }
 
 #[cfg(test)]

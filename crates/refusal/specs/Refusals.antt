@@ -28,14 +28,7 @@ place_of (NotAscending p) = Some p
 place_of (TooManyRows p) = Some p
 place_of (Unnamed p) = Some p
 place_of (NotPadded p) = Some p
-place_of NotInPlan = None
-place_of NoRoom = None
-place_of AboveMost = None
-place_of OtherRolls = None
-place_of NoSaveFree = None
-place_of NoSaveKept = None
-place_of NotNow = None
-place_of NoCommand = None
+place_of _ = None
 
 -- one line for people: what is wrong, at the bit place where there is one
 abbrev pub words_of : Refusal → List ℕ

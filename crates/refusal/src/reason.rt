@@ -1,6 +1,9 @@
 ghost use Rattle.std.specs.Prelude.{◌≡◌};
 ghost use Rattle.refusal.specs.Refusals.{number_of, place_of, words_of};
 
+use std::error::Error;
+use std::fmt;
+
 // Why a call of the filter is declined: one case for each reason. A refusal of a plan file holds the
 // bit place that it is about; the first bit of the file has the place 0.
 #[derive(Clone, Copy, Debug, PartialEq, Eq)]
@@ -101,3 +104,15 @@ impl Refusal {
         }
     }
 }
+
+impl fmt::Display for Refusal {
+    ghost use Rattle.std.specs.Prelude.{Some};
+
+    ghost output = { λ refusal. Some (words_of refusal) };
+
+    fn fmt<W: fmt::Write>(&self, f: &mut fmt::Formatter<W>) -> fmt::Result {
+        f.write_str(self.words())
+    }
+}
+
+impl Error for Refusal {}
