@@ -1,8 +1,7 @@
 -- The invariant of an ordered roll and its meaning, over its plain values, and how each call keeps the one and alters the other.
-use Rattle.std.specs.Prelude.{◌≡◌, ℕ, suc, ◌+◌, ◌-◌, ◌<◌, ◌≤◌, true, false, ◌≢◌, List, length, set, Ok, Err, slice_index, slice_index_or, slice_set, refl}
-use Rattle.std.proofs.Common.{sym, subst, ◌∙◌, inl, inr}
-use Rattle.std.proofs.Math.Path.{ap}
-use native.Mathlib.Omega.{arith}
+use Rattle.std.specs.Prelude.{◌≡◌, ℕ, suc, ◌+◌, ◌-◌, ◌<◌, ◌≤◌, true, false, ◌≢◌, List, ◌∷◌, length, set, Ok, Err, slice_index, slice_index_or, slice_set, refl}
+use Rattle.std.proofs.Common.{sym, ap, subst, ◌∙◌, inl, inr, arith}
+use Rattle.std.proofs.Math.Numerals.{add-one}
 use Rattle.std.proofs.lemmas.List.{get_or-set_same, get_or-set_other, length-set}
 use Rattle.std.proofs.lemmas.Bool.{cases_eq, lt-ltb}
 use Rattle.refusal.specs.declared.reason.Refusal.TheVariants.{NoSaveFree, NoSaveKept}
@@ -27,12 +26,8 @@ pub record Parts : Type 0 where
 abbrev pub parts_of : OrderedRoll → Parts
 parts_of p = record { list = p.lists.list; place = p.lists.place; counts = p.notes.counts; size = p.size; count = p.count; kept = p.kept }
 
-abbrev pub with_kept : Parts → ℕ → Parts
-with_kept s n = record { list = s.list; place = s.place; counts = s.counts; size = s.size; count = s.count; kept = n }
-
 -- what the ghost fields say
 pub record Holds (s : Parts) : Type 0 where
-  pub long : (length s.list ≡ 1024) × ((length s.place ≡ 1024) × (length s.counts ≡ 32))
   pub few : (s.size ≤ 1024) × ((s.kept ≤ 32) × (s.count ≤ s.size))
   pub placed : Inverse s.size s.place s.list
   pub listed : Inverse s.size s.list s.place
@@ -43,7 +38,6 @@ pub record Holds (s : Parts) : Type 0 where
 
 pub held_by : (p : OrderedRoll) → Holds (parts_of p)
 held_by p = record {
-  long = p.long;
   few = p.few;
   placed = p.placed;
   listed = p.listed;
@@ -62,10 +56,8 @@ means s = record { marks = marks_of s.place s.count s.size; saves = saves_of s.p
 abbrev pub begun_parts : Parts → (list place : List ℕ) → ℕ → Parts
 begun_parts s list place n = record { list = list; place = place; counts = s.counts; size = n; count = n; kept = 0 }
 
-pub holds_begin : (s : Parts) (list place : List ℕ) (n : ℕ) → n ≤ 1024 → (length list ≡ 1024) × (length place ≡ 1024)
-    → InOrder n list → InOrder n place → Holds s → Holds (begun_parts s list place n)
-holds_begin s list place n l long f g v = record {
-  long = (long.0, (long.1, v.long.1.1));
+pub holds_begin : (s : Parts) (list place : List ℕ) (n : ℕ) → n ≤ 1024 → InOrder n list → InOrder n place → Holds (begun_parts s list place n)
+holds_begin s list place n l f g = record {
   few = (l, (omega arith, omega arith));
   placed = order_inverse place list n g f;
   listed = order_inverse list place n f g;
@@ -95,13 +87,11 @@ struck_parts s k = record {
   kept = s.kept;
 }
 
-module _ (s : Parts) (k : ℕ) (v : Holds s) (l : k < s.size) (h : slice_index_or s.place k 0 < s.count) where
+module _ (s : Parts) (k : ℕ) (v : Holds s) (l : k < s.size) (h : slice_index_or s.place k 0 < s.count) (long : (s.size ≤ length s.place) × (s.size ≤ length s.list)) where
   pair : Pair s.place s.list s.size k (slice_index s.list (s.count - 1)) (slice_index s.place k) (s.count - 1)
   pair =
       let f : s.count ≤ s.size = v.few.1.1 in
       let z : s.size ≤ 1024 = v.few.0 in
-      let a : length s.list ≡ 1024 = v.long.0 in
-      let b : length s.place ≡ 1024 = v.long.1.0 in
       let d : s.count - 1 < s.size = omega arith in
       record {
         a< = l;
@@ -112,7 +102,7 @@ module _ (s : Parts) (k : ℕ) (v : Holds s) (l : k < s.size) (h : slice_index_o
         from_b = (v.listed (s.count - 1) d).1;
         from_c = (v.placed k l).1;
         from_d = refl;
-        long = (omega arith, omega arith);
+        long = long;
       }
 
   in_front : slice_index_or s.place k 0 ≤ s.count - 1
@@ -142,10 +132,6 @@ module _ (s : Parts) (k : ℕ) (v : Holds s) (l : k < s.size) (h : slice_index_o
       = ap (λ bs. suc (trues bs)) marks_now ∙ trues-set (marks_of s.place s.count s.size) k stood ∙ v.counted in
       let f : s.count ≤ s.size = v.few.1.1 in
       record {
-        long = (
-          length-set (slice_set s.list a o) (s.count - 1) k ∙ length-set s.list a o ∙ v.long.0,
-          (length-set (slice_set s.place o a) k (s.count - 1) ∙ length-set s.place o a ∙ v.long.1.0, v.long.1.1),
-        );
         few = (v.few.0, (v.few.1.0, omega arith));
         placed = inverse_swapped s.place s.list s.size k o a (s.count - 1) pair v.placed;
         listed = inverse_swapped s.list s.place s.size (s.count - 1) a o k (mirrored s.place s.list s.size k o a (s.count - 1) pair) v.listed;
@@ -164,22 +150,19 @@ module _ (s : Parts) (k : ℕ) (v : Holds s) (l : k < s.size) (h : slice_index_o
 
 abbrev pub saved_parts : Parts → Parts
 saved_parts s = record
-    { list = s.list; place = s.place; counts = slice_set s.counts s.kept s.count; size = s.size; count = s.count; kept = suc s.kept }
+    { list = s.list; place = s.place; counts = slice_set s.counts s.kept s.count; size = s.size; count = s.count; kept = s.kept + 1 }
 
 pub save_none : (s : Parts) → s.kept ≡ 32 → Done (Err NoSaveFree) (save_answer (means s)) (means s) (after_save (means s))
 save_none s e = save_declined (means s) (omega arith)
 
-module _ (s : Parts) (v : Holds s) (l : s.kept < 32) where
-  noted : s.kept < length s.counts
-  noted = let q = v.long.1.1 in omega arith
-
+module _ (s : Parts) (v : Holds s) (l : s.kept < 32) (noted : s.kept < length s.counts) where
   at_save : (i : ℕ) → i ≡ s.kept → slice_index (saved_parts s).counts i ≡ s.count
   at_save i e = ap (λ x. slice_index (saved_parts s).counts x) e ∙ get_or-set_same s.counts s.kept s.count 0 noted
 
   at_earlier : (i : ℕ) → i ≢ s.kept → slice_index (saved_parts s).counts i ≡ slice_index s.counts i
   at_earlier i n = get_or-set_other s.counts s.kept i s.count 0 n
 
-  falling_more : (i d : ℕ) → i + d < suc s.kept → slice_index (saved_parts s).counts (i + d) ≤ slice_index (saved_parts s).counts i
+  falling_more : (i d : ℕ) → i + d < s.kept + 1 → slice_index (saved_parts s).counts (i + d) ≤ slice_index (saved_parts s).counts i
   falling_more i d b =
       elim (cases_eq (i + d) s.kept) [
         | inl e ↦ elim (cases_eq i s.kept) [
@@ -198,7 +181,6 @@ module _ (s : Parts) (v : Holds s) (l : s.kept < 32) where
   holds_save =
       let P : ℕ → Type 0 = λ x. trues (marks_of s.place x s.size) ≡ x in
       record {
-        long = (v.long.0, (v.long.1.0, length-set s.counts s.kept s.count ∙ v.long.1.1));
         few = (v.few.0, (omega arith, v.few.1.1));
         placed = v.placed;
         listed = v.listed;
@@ -217,44 +199,43 @@ module _ (s : Parts) (v : Holds s) (l : s.kept < 32) where
   pub save_is : Done (Ok tt) (save_answer (means s)) (means (saved_parts s)) (after_save (means s))
   save_is =
       let d = save_done (means s) (omega arith) in
-      let q : 32 - suc s.kept ≡ 32 - s.kept - 1 = omega arith in
-      let e : means (saved_parts s) ≡ saved (means s)
-      = λ i. record
-      { marks = marks_of s.place s.count s.size; saves = saves_saved s.place s.counts s.size s.count s.kept noted i; free = q i } in
+      let f : 32 - (s.kept + 1) ≡ 32 - s.kept - 1 = omega arith in
+      let a : saves_of s.place (saved_parts s).counts s.size (s.kept + 1) ≡ marks_of s.place s.count s.size ∷ saves_of s.place s.counts s.size s.kept
+      = rw add-one (saves_saved s.place s.counts s.size s.count s.kept noted) in
+      let e : means (saved_parts s) ≡ saved (means s) = λ i. record { marks = marks_of s.place s.count s.size; saves = a i; free = f i } in
       record { answer = d.answer; after = e ∙ d.after }
 
--- Back, to the save K, the newest.
+-- Back, to the save K, the newest, where n stood.
 
-abbrev pub back_parts : Parts → ℕ → Parts
-back_parts s K = record { list = s.list; place = s.place; counts = s.counts; size = s.size; count = slice_index s.counts K; kept = K }
+abbrev pub back_parts : Parts → (K n : ℕ) → Parts
+back_parts s K n = record { list = s.list; place = s.place; counts = s.counts; size = s.size; count = n; kept = K }
 
 pub back_none : (s : Parts) → s.kept ≡ 0 → Done (Err NoSaveKept) (back_answer (means s)) (means s) (after_back (means s))
 back_none s e = back_declined (means s) (no_saves s.place s.counts s.size s.kept e)
 
-module _ (s : Parts) (K : ℕ) (v : Holds s) (n : s.kept ≡ suc K) where
-  pub holds_back : Holds (back_parts s K)
+module _ (s : Parts) (K n : ℕ) (v : Holds s) (newest : s.kept ≡ suc K) (stood : n ≡ slice_index s.counts K) where
+  pub holds_back : Holds (back_parts s K n)
   holds_back =
-      let l : K < s.kept = omega arith in
+      let f = v.fewer K (omega arith) in
+      let few = v.few in
+      let P : ℕ → Type 0 = λ x. trues (marks_of s.place x s.size) ≡ x in
       record {
-        long = v.long;
-        few = (v.few.0, (let q = v.few.1.0 in omega arith, (v.fewer K l).1));
+        few = (few.0, (omega arith, omega arith));
         placed = v.placed;
         listed = v.listed;
-        counted = v.saves_counted K l;
+        counted = subst P (sym stood) (v.saves_counted K (omega arith));
         falling = λ i d b. v.falling i d (omega arith);
         fewer = λ i b.
             let e : i + (K - i) ≡ K = omega arith in
-            let P : ℕ → Type 0 = λ x. slice_index s.counts x ≤ slice_index_or s.counts i 0 in
-            (subst P e (v.falling i (K - i) (omega arith)), (v.fewer i (omega arith)).1);
+            let g : slice_index s.counts K ≤ slice_index s.counts i = rw e at (v.falling i (K - i) (omega arith)) in
+            (omega arith, (v.fewer i (omega arith)).1);
         saves_counted = λ i b. v.saves_counted i (omega arith);
       }
 
-  pub back_is : Done (Ok tt) (back_answer (means s)) (means (back_parts s K)) (after_back (means s))
+  pub back_is : Done (Ok tt) (back_answer (means s)) (means (back_parts s K n)) (after_back (means s))
   back_is =
       let d = back_done (means s) (marks_of s.place (slice_index s.counts K) s.size) (saves_of s.place s.counts s.size K)
-      (ap (saves_of s.place s.counts s.size) n ∙ saves_newest s.place s.counts s.size K) in
+      (ap (saves_of s.place s.counts s.size) newest ∙ saves_newest s.place s.counts s.size K) in
       let q : 32 - K ≡ 32 - s.kept + 1 = let h = v.few.1.0 in omega arith in
-      record {
-        answer = d.answer;
-        after = (λ i. record { marks = marks_of s.place (slice_index s.counts K) s.size; saves = saves_of s.place s.counts s.size K; free = q i }) ∙ d.after;
-      }
+      let e = ap (λ x. marks_of s.place x s.size) stood in
+      record { answer = d.answer; after = (λ i. record { marks = e i; saves = saves_of s.place s.counts s.size K; free = q i }) ∙ d.after }

@@ -1,4 +1,4 @@
-ghost use Rattle.std.specs.Prelude.{◌≡◌, ℕ, ◌+◌, ◌<◌, ◌≤◌, length, slice_index};
+ghost use Rattle.std.specs.Prelude.{◌≡◌, ℕ, ◌+◌, ◌<◌, ◌≤◌, slice_index};
 ghost use Rattle.ordered_roll.specs.Places.{Inverse, marks_of};
 ghost use Rattle.roll.specs.Meaning.{trues};
 
@@ -21,7 +21,6 @@ pub struct OrderedRoll {
     size: u32,
     count: u32,
     kept: u32,
-    ghost long: { (length lists.list ≡ 1024) × ((length lists.place ≡ 1024) × (length notes.counts ≡ 32)) },
     ghost few: { (size ≤ 1024) × ((kept ≤ 32) × (count ≤ size)) },
     ghost placed: { Inverse size lists.place lists.list },
     ghost listed: { Inverse size lists.list lists.place },

@@ -12,11 +12,9 @@ returns-then-self-eq0 c =
 pub invariant_of-self : goal.invariant_of-self
 invariant_of-self c =
     let p = c.args.self.now in
-    let K : ℕ = p.kept - 1 in
-    let n : p.kept ≡ suc K = let t = c.if-self-eq0.false in omega arith in
-    let h = holds_back (parts_of p) K (held_by p) n in
+    let newest : p.kept ≡ suc (p.kept - 1) = let t = c.if-self-eq0.false in omega arith in
+    let h = holds_back (parts_of p) (p.kept - 1) c.from-self.result (held_by p) newest c.from-self.ensures in
     record {
-      long = h.long;
       few = (h.few.0, (omega arith, h.few.1.1));
       placed = h.placed;
       listed = h.listed;
@@ -30,7 +28,6 @@ pub returns : goal.returns
 unfolding meaning_of
 returns c =
     let p = c.args.self.now in
-    let K : ℕ = p.kept - 1 in
-    let n : p.kept ≡ suc K = let t = c.if-self-eq0.false in omega arith in
-    let d = back_is (parts_of p) K (held_by p) n in
+    let newest : p.kept ≡ suc (p.kept - 1) = let t = c.if-self-eq0.false in omega arith in
+    let d = back_is (parts_of p) (p.kept - 1) c.from-self.result (held_by p) newest c.from-self.ensures in
     record { answer = d.answer; after = d.after }

@@ -8,9 +8,8 @@ invariant_of-self c =
     let p = c.args.self.now in
     let f = c.fill.new.self in
     let l : c.args.n ≤ 1024 = omega arith in
-    let h = holds_begin (parts_of p) f.list f.place c.args.n l c.fill.ensures.long c.fill.ensures.list c.fill.ensures.place (held_by p) in
+    let h = holds_begin (parts_of p) f.list f.place c.args.n l c.fill.ensures.list c.fill.ensures.place in
     record {
-      long = h.long;
       few = h.few;
       placed = h.placed;
       listed = h.listed;

@@ -6,7 +6,6 @@ use Rattle.ordered_roll.proofs.ordered.kind.OrderedRollRoll.new.Goals as goal
 pub invariant_of-result : goal.invariant_of-result
 unfolding marks_of
 invariant_of-result c = record {
-  long = (refl, (refl, refl));
   few = (omega arith, (omega arith, omega arith));
   placed = λ k l. absurd (let z : ⊥ = omega arith in z);
   listed = λ k l. absurd (let z : ⊥ = omega arith in z);

@@ -1,6 +1,6 @@
-use Rattle.std.proofs.Common.{◌≡◌, ℕ, suc, ◌+◌, ◌<◌, ap, ◌∙◌, subst, arith}
+use Rattle.std.proofs.Common.{◌<◌, length, arith}
 use Rattle.ordered_roll.specs.Ordered.{meaning_of}
-use Rattle.ordered_roll.proofs.Invariant.{Parts, Holds, parts_of, with_kept, held_by, means, saved_parts, save_none, holds_save, save_is}
+use Rattle.ordered_roll.proofs.Invariant.{parts_of, held_by, save_none, holds_save, save_is}
 use Rattle.ordered_roll.proofs.ordered.kind.OrderedRollRoll.save.Goals as goal
 
 pub returns-then-self-eq32 : goal.returns-then-self-eq32
@@ -13,11 +13,9 @@ pub invariant_of-self : goal.invariant_of-self
 invariant_of-self c =
     let p = c.args.self.now in
     let l : p.kept < 32 = let t = c.if-self-eq32.false in let q = p.few.1.0 in omega arith in
-    let s : Parts = saved_parts (parts_of p) in
-    let P : ℕ → Type 0 = λ n. Holds (with_kept s n) in
-    let h : P (p.kept + 1) = subst P (omega arith) (holds_save (parts_of p) (held_by p) l) in
+    let noted : p.kept < length p.notes.counts = omega arith in
+    let h = holds_save (parts_of p) (held_by p) l noted in
     record {
-      long = h.long;
       few = (h.few.0, (omega arith, h.few.1.1));
       placed = h.placed;
       listed = h.listed;
@@ -32,6 +30,6 @@ unfolding meaning_of
 returns c =
     let p = c.args.self.now in
     let l : p.kept < 32 = let t = c.if-self-eq32.false in let q = p.few.1.0 in omega arith in
-    let d = save_is (parts_of p) (held_by p) l in
-    let e : p.kept + 1 ≡ suc p.kept = omega arith in
-    record { answer = d.answer; after = ap (λ n. means (with_kept (saved_parts (parts_of p)) n)) e ∙ d.after }
+    let noted : p.kept < length p.notes.counts = omega arith in
+    let d = save_is (parts_of p) (held_by p) l noted in
+    record { answer = d.answer; after = d.after }

@@ -8,7 +8,7 @@ pub returns-then-k-self : goal.returns-then-k-self
 unfolding meaning_of
 returns-then-k-self c =
     let p = c.args.self.now in
-    sym (marks_at p.lists.place p.count p.size c.args.k (let t = c.if-k-self.true in omega arith))
+    let e = marks_at p.lists.place p.count p.size c.args.k (let t = c.if-k-self.true in omega arith) in cc
 
 pub returns-else-k-self : goal.returns-else-k-self
 unfolding meaning_of

@@ -52,7 +52,7 @@ exchange-requires c =
     let z = s.size in
     let n = s.count in
     let o = s.other in
-    (omega arith, (omega arith, (omega arith, omega arith)))
+    record { number = omega arith; place = omega arith; place_of_number = omega arith; number_at_place = omega arith }
 
 pub overflow_sub-self-2 : goal.overflow_sub-self-2
 overflow_sub-self-2 c =
@@ -75,10 +75,10 @@ invariant_of-self c =
     let t = c.exchange.new.self in
     let h = standing p k (sym c.if-not-stands.ensures) in
     let e = written p k t.list t.place c.exchange.ensures.list c.exchange.ensures.place in
-    let struck = holds_strike (parts_of p) k (held_by p) h.below h.front in
+    let few = p.few.0 in
+    let struck = holds_strike (parts_of p) k (held_by p) h.below h.front (omega arith, omega arith) in
     let held : Holds (after_with p t.list t.place (p.count - 1)) = subst Holds (sym e) struck in
     record {
-      long = held.long;
       few = (held.few.0, (held.few.1.0, omega arith));
       placed = held.placed;
       listed = held.listed;
@@ -96,4 +96,5 @@ returns c =
     let t = c.exchange.new.self in
     let h = standing p k (sym c.if-not-stands.ensures) in
     let e = written p k t.list t.place c.exchange.ensures.list c.exchange.ensures.place in
-    record { answer = c.if-not-stands.ensures; after = ap means e ∙ strike_is (parts_of p) k (held_by p) h.below h.front }
+    let few = p.few.0 in
+    record { answer = c.if-not-stands.ensures; after = ap means e ∙ strike_is (parts_of p) k (held_by p) h.below h.front (omega arith, omega arith) }
