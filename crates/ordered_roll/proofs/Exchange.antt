@@ -63,7 +63,6 @@ inverse_swapped xs ys n a b c d s h k l =
 module _ (list place : List ℕ) (n k o p q : ℕ) (s : Pair place list n k o p q) (l : p ≤ q) where
   -- counts above q see no change
   front_above : (c j : ℕ) → q < c → front (swapped place k o p q) c j ≡ front place c j
-  unfolding front
   front_above c j h =
       elim (cases_eq j k) [
         | inl e ↦
@@ -79,11 +78,9 @@ module _ (list place : List ℕ) (n k o p q : ℕ) (s : Pair place list n k o p 
 
   -- the count q sees k no more, and the others as the count q + 1 saw them
   front_k : front (swapped place k o p q) q k ≡ false
-  unfolding front
   front_k = ap (λ x. nat_lt x q) (at_a place list n k o p q s) ∙ le-ltb q q (omega arith)
 
   front_others : (j : ℕ) → slice_index list (slice_index place j) ≡ j → j ≢ k → front (swapped place k o p q) q j ≡ front place (suc q) j
-  unfolding front
   front_others j back e =
       elim (cases_eq j o) [
         | inl f ↦
@@ -100,9 +97,7 @@ module _ (list place : List ℕ) (n k o p q : ℕ) (s : Pair place list n k o p 
       ]
 
   pub marks_above : (c : ℕ) → q < c → marks_of (swapped place k o p q) c n ≡ marks_of place c n
-  unfolding marks_of
   marks_above c h = made_same (front (swapped place k o p q) c) (front place c) n (λ j b. front_above c j h)
 
   pub marks_struck : Inverse n place list → marks_of (swapped place k o p q) q n ≡ slice_set (marks_of place (suc q) n) k false
-  unfolding marks_of
   marks_struck h = made-set (front (swapped place k o p q) q) (front place (suc q)) n k front_k (λ j b e. front_others j (h j b).1 e)

@@ -109,7 +109,6 @@ module _ (s : Parts) (k : ℕ) (v : Holds s) (l : k < s.size) (h : slice_index_o
   in_front = omega arith
 
   marks_now : marks_of (struck_parts s k).place (s.count - 1) s.size ≡ slice_set (marks_of s.place s.count s.size) k false
-  unfolding place_after
   marks_now =
       let e : suc (s.count - 1) ≡ s.count = omega arith in
       marks_struck s.list s.place s.size k (slice_index s.list (s.count - 1)) (slice_index s.place k) (s.count - 1) pair in_front v.placed
@@ -117,13 +116,11 @@ module _ (s : Parts) (k : ℕ) (v : Holds s) (l : k < s.size) (h : slice_index_o
 
   -- at a save more counted, so nothing is seen of it there
   marks_saved : (i : ℕ) → i < s.kept → marks_of (struck_parts s k).place (slice_index s.counts i) s.size ≡ marks_of s.place (slice_index s.counts i) s.size
-  unfolding place_after
   marks_saved i b =
       let f = (v.fewer i b).0 in
       marks_above s.list s.place s.size k (slice_index s.list (s.count - 1)) (slice_index s.place k) (s.count - 1) pair in_front (slice_index s.counts i) (omega arith)
 
   pub holds_strike : Holds (struck_parts s k)
-  unfolding list_after place_after
   holds_strike =
       let a : ℕ = slice_index_or s.place k 0 in
       let o : ℕ = slice_index_or s.list (s.count - 1) 0 in

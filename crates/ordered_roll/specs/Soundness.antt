@@ -8,21 +8,17 @@ use Rattle.ordered_roll.specs.Ordered.{meaning_of}
 use Rattle.ordered_roll.specs.declared.ordered.OrderedRoll.{OrderedRoll}
 
 pub length_marks : (place : List ℕ) (c n : ℕ) → length (marks_of place c n) ≡ n
-unfolding marks_of
 length_marks place c n = length-made (front place c) n
 
 pub length_saves : (place counts : List ℕ) (n K : ℕ) → length (saves_of place counts n K) ≡ K
-unfolding saves_of
 length_saves place counts n zero = refl
 length_saves place counts n (suc K) = ap suc (length_saves place counts n K)
 
 pub sized_saves : (place counts : List ℕ) (n K : ℕ) → Sized n (saves_of place counts n K)
-unfolding saves_of
 sized_saves place counts n zero = tt
 sized_saves place counts n (suc K) = (length_marks place (slice_index counts K) n, sized_saves place counts n K)
 
 pub sound_of : (p : OrderedRoll) → Sound 1024 (meaning_of p)
-unfolding meaning_of
 sound_of p =
     let e : length (marks_of p.lists.place p.count p.size) ≡ p.size = length_marks p.lists.place p.count p.size in
     let s : p.size ≤ 1024 = p.few.0 in

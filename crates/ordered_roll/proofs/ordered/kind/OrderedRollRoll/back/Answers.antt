@@ -4,7 +4,6 @@ use Rattle.ordered_roll.proofs.Invariant.{parts_of, held_by, back_none, holds_ba
 use Rattle.ordered_roll.proofs.ordered.kind.OrderedRollRoll.back.Goals as goal
 
 pub returns-then-self-eq0 : goal.returns-then-self-eq0
-unfolding meaning_of
 returns-then-self-eq0 c =
     let d = back_none (parts_of c.args.self.now) c.if-self-eq0.true in
     record { answer = d.answer; after = d.after }
@@ -25,7 +24,6 @@ invariant_of-self c =
     }
 
 pub returns : goal.returns
-unfolding meaning_of
 returns c =
     let p = c.args.self.now in
     let newest : p.kept ≡ suc (p.kept - 1) = let t = c.if-self-eq0.false in omega arith in

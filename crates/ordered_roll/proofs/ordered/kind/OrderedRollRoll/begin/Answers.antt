@@ -20,7 +20,6 @@ invariant_of-self c =
     }
 
 pub returns : goal.returns
-unfolding meaning_of
 returns c =
     let f = c.fill.new.self in
     let l : c.args.n ≤ 1024 = omega arith in

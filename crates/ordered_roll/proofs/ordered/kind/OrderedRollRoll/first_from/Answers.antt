@@ -18,7 +18,6 @@ found m p n None l h =
 found m p n (Some i) l h = sym (lowest_is m p i (record { from = h.0; here = h.2; before = h.3 }))
 
 pub returns : goal.returns
-unfolding meaning_of
 returns c =
     let p = c.args.self.now in
     let e = length_marks p.lists.place p.count p.size in

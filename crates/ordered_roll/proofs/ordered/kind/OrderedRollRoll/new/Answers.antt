@@ -4,7 +4,6 @@ use Rattle.ordered_roll.specs.Places.{marks_of, saves_of}
 use Rattle.ordered_roll.proofs.ordered.kind.OrderedRollRoll.new.Goals as goal
 
 pub invariant_of-result : goal.invariant_of-result
-unfolding marks_of
 invariant_of-result c = record {
   few = (omega arith, (omega arith, omega arith));
   placed = λ k l. absurd (let z : ⊥ = omega arith in z);
@@ -16,5 +15,4 @@ invariant_of-result c = record {
 }
 
 pub returns : goal.returns
-unfolding meaning_of marks_of saves_of
 returns c = refl

@@ -4,7 +4,6 @@ use Rattle.ordered_roll.proofs.Invariant.{parts_of, held_by, save_none, holds_sa
 use Rattle.ordered_roll.proofs.ordered.kind.OrderedRollRoll.save.Goals as goal
 
 pub returns-then-self-eq32 : goal.returns-then-self-eq32
-unfolding meaning_of
 returns-then-self-eq32 c =
     let d = save_none (parts_of c.args.self.now) c.if-self-eq32.true in
     record { answer = d.answer; after = d.after }
@@ -26,7 +25,6 @@ invariant_of-self c =
     }
 
 pub returns : goal.returns
-unfolding meaning_of
 returns c =
     let p = c.args.self.now in
     let l : p.kept < 32 = let t = c.if-self-eq32.false in let q = p.few.1.0 in omega arith in

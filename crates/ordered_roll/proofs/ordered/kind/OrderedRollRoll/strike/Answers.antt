@@ -20,7 +20,6 @@ record Standing (p : OrderedRoll) (k : ℕ) : Type 0 where
   other : get_or p.lists.list (p.count - 1) 0 < p.size
 
 standing : (p : OrderedRoll) (k : ℕ) → stands_at (meaning_of p) k ≡ true → Standing p k
-unfolding meaning_of
 standing p k h =
     let l : k < p.size = let a = stands_below (meaning_of p) k h in let e = length_marks p.lists.place p.count p.size in omega arith in
     let f : get_or p.lists.place k 0 < p.count = ltb-true (get_or p.lists.place k 0) p.count (sym (marks_at p.lists.place p.count p.size k l) ∙ h) in
@@ -89,7 +88,6 @@ invariant_of-self c =
     }
 
 pub returns : goal.returns
-unfolding meaning_of
 returns c =
     let p = c.args.self.now in
     let k : ℕ = c.args.k in
