@@ -1,11 +1,11 @@
 -- What the places of the numbers mean, and the counts that saves note.
-use Rattle.std.specs.Prelude.{◌≡◌, ℕ, zero, suc, ◌+◌, ◌<◌, ◌≤◌, true, false, ltb, List, [], ◌∷◌, length, replicate, nat_lt, slice_index, slice_index_or, slice_set, refl}
-use Rattle.std.proofs.Common.{sym, ap, ◌∙◌, inl, inr, arith}
+use Rattle.std.specs.Prelude.{◌≡◌, ℕ, zero, suc, ◌<◌, ◌≤◌, true, false, ltb, List, ◌∷◌, length, replicate, nat_lt, slice_index, slice_set, refl}
+use Rattle.std.proofs.Common.{ap, ◌∙◌, arith}
 use Rattle.std.proofs.lemmas.List.{get_or-set_same, get_or-set_other}
-use Rattle.std.proofs.lemmas.Bool.{cases_eq, lt-ltb}
+use Rattle.std.proofs.lemmas.Bool.{lt-ltb}
 use Rattle.roll.specs.Meaning.{has, trues}
 use Rattle.roll.proofs.Marks.{made_at, made_past, made_all, trues_all}
-use Rattle.ordered_roll.specs.Places.{front, marks_of, saves_of, Inverse}
+use Rattle.ordered_roll.specs.Places.{front, marks_of, saves_of}
 
 pub marks_at : (place : List ℕ) (c n k : ℕ) → k < n → has (marks_of place c n) k ≡ nat_lt (slice_index place k) c
 marks_at place c n k l = made_at (front place c) n k l
@@ -13,33 +13,17 @@ marks_at place c n k l = made_at (front place c) n k l
 pub marks_past : (place : List ℕ) (c n k : ℕ) → n ≤ k → has (marks_of place c n) k ≡ false
 marks_past place c n k l = made_past (front place c) n k l
 
-pub no_saves : (place counts : List ℕ) (n K : ℕ) → K ≡ 0 → saves_of place counts n K ≡ []
-no_saves place counts n K e = ap (saves_of place counts n) e
-
-pub saves_newest : (place counts : List ℕ) (n K : ℕ) → saves_of place counts n (suc K) ≡ marks_of place (slice_index counts K) n ∷ saves_of place counts n K
-saves_newest place counts n K = refl
-
 -- The numbers in ascending order.
 
 -- each number below n is at its own place
 abbrev pub InOrder : ℕ → List ℕ → Type 0
 InOrder n xs = (i : ℕ) → i < n → slice_index xs i ≡ i
 
-pub order_more : (xs : List ℕ) (n : ℕ) → n < length xs → InOrder n xs → InOrder (n + 1) (slice_set xs n n)
-order_more xs n l h i b =
-    elim (cases_eq i n) [
-      | inl e ↦ ap (λ x. slice_index (slice_set xs n n) x) e ∙ get_or-set_same xs n n 0 l ∙ sym e
-      | inr e ↦ get_or-set_other xs n i n 0 e ∙ h i (omega arith)
-    ]
-
 pub all_stand : (place : List ℕ) (n : ℕ) → InOrder n place → marks_of place n n ≡ replicate n true
 all_stand place n h = made_all (front place n) n (λ k l. ap (λ x. ltb x n) (h k l) ∙ lt-ltb k n l)
 
 pub all_counted : (place : List ℕ) (n : ℕ) → InOrder n place → trues (marks_of place n n) ≡ n
 all_counted place n h = ap trues (all_stand place n h) ∙ trues_all n
-
-pub order_inverse : (xs ys : List ℕ) (n : ℕ) → InOrder n xs → InOrder n ys → Inverse n xs ys
-order_inverse xs ys n f g k l = let e : slice_index_or xs k 0 ≡ k = f k l in (omega arith, ap (λ x. slice_index ys x) e ∙ g k l)
 
 -- A save more.
 

@@ -1,31 +1,27 @@
-use Rattle.std.proofs.Common.{◌≡◌, ℕ, suc, ◌-◌, arith}
-use Rattle.ordered_roll.specs.Ordered.{meaning_of}
-use Rattle.ordered_roll.proofs.Invariant.{parts_of, held_by, back_none, holds_back, back_is}
+use Rattle.std.proofs.Common.{◌≡◌, ℕ, ◌+◌, ◌-◌, sym, subst, arith}
+use Rattle.roll.specs.Meaning.{trues}
+use Rattle.ordered_roll.specs.Places.{marks_of}
 use Rattle.ordered_roll.proofs.ordered.kind.OrderedRollRoll.back.Goals as goal
 
-pub returns-then-self-eq0 : goal.returns-then-self-eq0
-returns-then-self-eq0 c =
-    let d = back_none (parts_of c.args.self.now) c.if-self-eq0.true in
-    record { answer = d.answer; after = d.after }
+pub invariant_of-self-clause-few : goal.invariant_of-self-clause-few
+invariant_of-self-clause-few c =
+  let p = c.args.self.now in
+  let few = p.few in
+  let fewer = p.fewer (p.kept - 1) (omega arith) in
+  (few.0, (omega arith, omega (arith, c.from-self.ensures)))
 
-pub invariant_of-self : goal.invariant_of-self
-invariant_of-self c =
-    let p = c.args.self.now in
-    let newest : p.kept ≡ suc (p.kept - 1) = let t = c.if-self-eq0.false in omega arith in
-    let h = holds_back (parts_of p) (p.kept - 1) c.from-self.result (held_by p) newest c.from-self.ensures in
-    record {
-      few = (h.few.0, (omega arith, h.few.1.1));
-      placed = h.placed;
-      listed = h.listed;
-      counted = h.counted;
-      falling = λ i d l. h.falling i d (omega arith);
-      fewer = h.fewer;
-      saves_counted = h.saves_counted;
-    }
+pub invariant_of-self-clause-counted : goal.invariant_of-self-clause-counted
+invariant_of-self-clause-counted c =
+  let p = c.args.self.now in
+  let P : ℕ → Type 0 = λ n. trues (marks_of p.lists.place n p.size) ≡ n in
+  subst P (sym c.from-self.ensures) (p.saves_counted (p.kept - 1) (omega arith))
 
-pub returns : goal.returns
-returns c =
-    let p = c.args.self.now in
-    let newest : p.kept ≡ suc (p.kept - 1) = let t = c.if-self-eq0.false in omega arith in
-    let d = back_is (parts_of p) (p.kept - 1) c.from-self.result (held_by p) newest c.from-self.ensures in
-    record { answer = d.answer; after = d.after }
+pub invariant_of-self-clause-fewer : goal.invariant_of-self-clause-fewer
+invariant_of-self-clause-fewer c i l =
+  let p = c.args.self.now in
+  let e : i + (p.kept - 1 - i) ≡ p.kept - 1 = omega arith in
+  let f = rw e at (p.falling i (p.kept - 1 - i) (omega arith)) in
+  (omega (arith, c.from-self.ensures), (p.fewer i (omega arith)).1)
+
+pub invariant_of-self-clause-saves_counted : goal.invariant_of-self-clause-saves_counted
+invariant_of-self-clause-saves_counted c i l = c.args.self.now.saves_counted i (omega arith)

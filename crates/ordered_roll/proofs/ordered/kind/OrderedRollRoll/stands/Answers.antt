@@ -1,6 +1,5 @@
 use Rattle.std.proofs.Common.{sym, ◌∙◌, arith}
 use Rattle.std.proofs.lemmas.Bool.{le-ltb}
-use Rattle.ordered_roll.specs.Ordered.{meaning_of}
 use Rattle.ordered_roll.proofs.PlaceLaws.{marks_at, marks_past}
 use Rattle.ordered_roll.proofs.ordered.kind.OrderedRollRoll.stands.Goals as goal
 
