@@ -1,9 +1,9 @@
 -- What the places of the numbers mean, and the counts that saves note.
 use Rattle.std.specs.Prelude.{◌≡◌, ℕ, zero, suc, ◌<◌, ◌≤◌, true, false, ltb, List, ◌∷◌, length, replicate, nat_lt, slice_index, slice_set, refl}
 use Rattle.std.proofs.Common.{ap, ◌∙◌, arith}
-use Rattle.std.proofs.lemmas.List.{get_or-set_same, get_or-set_other}
 use Rattle.std.proofs.lemmas.Bool.{lt-ltb}
 use Rattle.roll.specs.Meaning.{has, trues}
+use Rattle.std.proofs.lemmas.Grind.{common_steps}
 use Rattle.roll.proofs.Marks.{made_at, made_past, made_all, trues_all}
 use Rattle.ordered_roll.specs.Places.{front, marks_of, saves_of}
 
@@ -29,20 +29,14 @@ all_counted place n h = ap trues (all_stand place n h) ∙ trues_all n
 
 saves_keep : (place counts : List ℕ) (n K c x : ℕ) → K ≤ c → saves_of place (slice_set counts c x) n K ≡ saves_of place counts n K
 saves_keep place counts n zero c x l = refl
-saves_keep place counts n (suc K) c x l =
-    ap (λ y. marks_of place y n ∷ saves_of place (slice_set counts c x) n K) (get_or-set_other counts c K x 0 (λ e. let z : ⊥ = omega arith in z))
-    ∙ ap (λ ss. marks_of place (slice_index counts K) n ∷ ss) (saves_keep place counts n K c x (omega arith))
+saves_keep place counts n (suc K) c x l = let e = saves_keep place counts n K c x (omega arith) in grind (arith, common_steps)
 
 pub saves_saved : (place counts : List ℕ) (n count K : ℕ) → K < length counts
     → saves_of place (slice_set counts K count) n (suc K) ≡ marks_of place count n ∷ saves_of place counts n K
-saves_saved place counts n count K l =
-    ap (λ y. marks_of place y n ∷ saves_of place (slice_set counts K count) n K) (get_or-set_same counts K count 0 l)
-    ∙ ap (λ ss. marks_of place count n ∷ ss) (saves_keep place counts n K K count (omega arith))
+saves_saved place counts n count K l = let e = saves_keep place counts n K K count (omega arith) in grind (arith, common_steps)
 
 -- places that mean the same at each save's count
 pub saves_same : (place place' counts : List ℕ) (n K : ℕ) → ((i : ℕ) → i < K → marks_of place' (slice_index counts i) n ≡ marks_of place (slice_index counts i) n)
     → saves_of place' counts n K ≡ saves_of place counts n K
 saves_same place place' counts n zero h = refl
-saves_same place place' counts n (suc K) h =
-    ap (λ m. m ∷ saves_of place' counts n K) (h K (omega arith))
-    ∙ ap (λ ss. marks_of place (slice_index counts K) n ∷ ss) (saves_same place place' counts n K (λ i l. h i (omega arith)))
+saves_same place place' counts n (suc K) h = let e = saves_same place place' counts n K (λ i l. h i (omega arith)) in let f = h K (omega arith) in cc

@@ -20,7 +20,7 @@ found m p n (Some i) l h = sym (lowest_is m p i (record { from = h.0; here = h.2
 pub returns : goal.returns
 returns c =
     let p = c.args.self.now in
-    let e = length_marks p.lists.place p.count p.size in
-    let stands = first_from_Range _ _ _ _ (λ k. stands_at (meaning_of p) k ≡ true) (λ k. stands_at (meaning_of p) k ≡ false) c.find.ensures.ran
-    (λ x q k. search rules) (λ x q k. search rules) in
-    found (meaning_of p) c.args.place p.size c.find.result (omega arith) stands
+    let m = meaning_of p in
+    let size = length_marks p.lists.place p.count p.size in
+    found m c.args.place p.size c.find.result (omega arith)
+    (first_from_Range _ _ _ _ (λ k. stands_at m k ≡ true) (λ k. stands_at m k ≡ false) c.find.ensures.ran (λ x q k. search rules) (λ x q k. search rules))
