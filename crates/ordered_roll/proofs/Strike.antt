@@ -24,8 +24,8 @@ pub standing : (p : OrderedRoll) (k : ℕ) → stands_at (meaning_of p) k ≡ tr
 standing p k h =
     let l : k < p.size = let a = stands_below (meaning_of p) k h in let e = length_marks p.lists.place p.count p.size in omega arith in
     let f : get_or p.lists.place k 0 < p.count = ltb-true (get_or p.lists.place k 0) p.count (sym (marks_at p.lists.place p.count p.size k l) ∙ h) in
-    let c : p.count ≤ p.size = p.few.1.1 in
-    record { stands = h; below = l; front = f; size = p.few.0; count = c; other = (p.listed (p.count - 1) (omega arith)).0 }
+    let c : p.count ≤ p.size = p.within in
+    record { stands = h; below = l; front = f; size = p.fits; count = c; other = (p.listed (p.count - 1) (omega arith)).0 }
 
 abbrev pub new_list : OrderedRoll → ℕ → List ℕ
 new_list p k = list_after p.lists.list p.lists.place k (p.count - 1)

@@ -12,5 +12,4 @@ pub use ordered::OrderedRoll;
 // An ordered roll lists each number below its size once, and no other.
 pub fn listed_once()
     ensures { ListedOnce }
-{
-}
+{}

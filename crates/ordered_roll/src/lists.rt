@@ -1,7 +1,8 @@
 ghost use Rattle.std.specs.Prelude.{◌≡◌, ℕ, ◌<◌, ◌≤◌, slice_index};
 ghost use Rattle.ordered_roll.specs.Places.{list_after, place_after};
 
-// The numbers below the size, each once, and the place of each in that list.
+// The numbers below the size, each once, and the place of each in that list. Each array leads back from the other,
+// so they are no columns of one table.
 #[derive(Drop)]
 pub(crate) struct Lists {
     pub(crate) list: [u16; 1024],
@@ -15,6 +16,7 @@ impl Lists {
         ensures list { (i : ℕ) → i < n → slice_index self.new.list i ≡ i }
         ensures place { (i : ℕ) → i < n → slice_index self.new.place i ≡ i }
     {
+        // By number, since a proof does not know what a zip of two `iter_mut` writes.
         for i in 0..n {
             self.list[usize::from(i)] = i;
             self.place[usize::from(i)] = i;

@@ -6,7 +6,7 @@ use crate::lists::Lists;
 
 pub mod kind;
 
-// How many numbers stood at each save, the oldest first.
+// How many numbers stood at each save, the oldest first. Memory is fixed, so the number of saves is kept apart.
 #[derive(Drop)]
 pub(crate) struct Notes {
     pub(crate) counts: [u16; 32],
@@ -21,7 +21,9 @@ pub struct OrderedRoll {
     size: u32,
     count: u32,
     kept: u32,
-    ghost few: { (size ≤ 1024) × ((kept ≤ 32) × (count ≤ size)) },
+    ghost fits: { size ≤ 1024 },
+    ghost few: { kept ≤ 32 },
+    ghost within: { count ≤ size },
     ghost placed: { Inverse size lists.place lists.list },
     ghost listed: { Inverse size lists.list lists.place },
     ghost counted: { trues (marks_of lists.place count size) ≡ count },

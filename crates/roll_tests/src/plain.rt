@@ -1,5 +1,5 @@
-// A roll kept in the plainest way, to compare with: for each number, how many saves were kept when it was
-// struck. Going back to a save lets stand again what was struck since.
+// A roll kept in the plainest way, to compare with: for each number that was struck, how many saves were kept
+// then, and none for one that stands. Going back to a save lets stand again what was struck since.
 use refusal::Refusal;
 
 #[derive(Drop)]

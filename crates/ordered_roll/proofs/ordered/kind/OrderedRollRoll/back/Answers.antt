@@ -9,7 +9,9 @@ invariant_of-self c =
     let stood = c.from-self.ensures in
     let P : ℕ → Type 0 = λ n. trues (marks_of p.lists.place n p.size) ≡ n in
     record {
-      few = (p.few.0, (let f = p.few.1.0 in omega arith, let f = p.fewer (p.kept - 1) (omega arith) in omega arith));
+      fits = p.fits;
+      few = omega arith;
+      within = let f = p.fewer (p.kept - 1) (omega arith) in omega arith;
       placed = p.placed;
       listed = p.listed;
       counted = subst P (sym stood) (p.saves_counted (p.kept - 1) (omega arith));

@@ -4,8 +4,8 @@ use Rattle.ordered_roll.specs.Ordered.{meaning_of}
 use Rattle.ordered_roll.proofs.PlaceLaws.{all_stand, all_counted}
 use Rattle.ordered_roll.proofs.ordered.kind.OrderedRollRoll.begin.Goals as goal
 
-pub invariant_of-self-clause-few : goal.invariant_of-self-clause-few
-invariant_of-self-clause-few c = (omega arith, (omega arith, omega arith))
+pub invariant_of-self-clause-fits : goal.invariant_of-self-clause-fits
+invariant_of-self-clause-fits c = omega arith
 
 pub invariant_of-self-clause-counted : goal.invariant_of-self-clause-counted
 invariant_of-self-clause-counted c = all_counted c.fill.new.self.place c.args.n c.fill.ensures.place

@@ -12,7 +12,9 @@ invariant_of-self c =
     let p = c.args.self.now in
     let noted : p.kept < length p.notes.counts = omega arith in
     record {
-      few = (p.few.0, (omega arith, p.few.1.1));
+      fits = p.fits;
+      few = omega arith;
+      within = p.within;
       placed = p.placed;
       listed = p.listed;
       counted = p.counted;

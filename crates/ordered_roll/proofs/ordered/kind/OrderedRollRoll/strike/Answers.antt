@@ -23,7 +23,9 @@ invariant_of-self c =
     let long : (p.size ≤ length p.lists.place) × (p.size ≤ length p.lists.list) = (omega arith, omega arith) in
     let e = c.exchange.ensures in
     record {
-      few = (p.few.0, (p.few.1.0, omega arith));
+      fits = p.fits;
+      few = p.few;
+      within = omega arith;
       placed = rw (e.place, e.list) (placed_struck p c.args.k s long);
       listed = rw (e.place, e.list) (listed_struck p c.args.k s long);
       counted = rw e.place (let n = counted_struck p c.args.k s long in omega arith);
