@@ -1,3 +1,3 @@
 pub mod Exchange
-pub mod Invariant
 pub mod PlaceLaws
+pub mod Strike

@@ -1,27 +1,17 @@
 -- What the places of the numbers mean, and the counts that saves note.
-use Rattle.std.specs.Prelude.{◌≡◌, ℕ, zero, suc, ◌+◌, ◌<◌, ◌≤◌, true, false, ltb, List, [], ◌∷◌, length, replicate, nat_lt, slice_index, slice_index_or, slice_set, refl}
-use Rattle.std.proofs.Common.{sym, ap, ◌∙◌, inl, inr, arith}
-use Rattle.std.proofs.lemmas.List.{get_or-set_same, get_or-set_other}
-use Rattle.std.proofs.lemmas.Bool.{cases_eq, lt-ltb}
+use Rattle.std.specs.Prelude.{◌≡◌, ℕ, zero, suc, ◌<◌, ◌≤◌, true, false, ltb, List, ◌∷◌, length, replicate, nat_lt, slice_index, slice_set, refl}
+use Rattle.std.proofs.Common.{ap, ◌∙◌, arith}
+use Rattle.std.proofs.lemmas.Bool.{lt-ltb}
 use Rattle.roll.specs.Meaning.{has, trues}
+use Rattle.std.proofs.lemmas.Grind.{common_steps}
 use Rattle.roll.proofs.Marks.{made_at, made_past, made_all, trues_all}
-use Rattle.ordered_roll.specs.Places.{front, marks_of, saves_of, Inverse}
+use Rattle.ordered_roll.specs.Places.{front, marks_of, saves_of}
 
 pub marks_at : (place : List ℕ) (c n k : ℕ) → k < n → has (marks_of place c n) k ≡ nat_lt (slice_index place k) c
-unfolding marks_of front
 marks_at place c n k l = made_at (front place c) n k l
 
 pub marks_past : (place : List ℕ) (c n k : ℕ) → n ≤ k → has (marks_of place c n) k ≡ false
-unfolding marks_of
 marks_past place c n k l = made_past (front place c) n k l
-
-pub no_saves : (place counts : List ℕ) (n K : ℕ) → K ≡ 0 → saves_of place counts n K ≡ []
-unfolding saves_of
-no_saves place counts n K e = ap (saves_of place counts n) e
-
-pub saves_newest : (place counts : List ℕ) (n K : ℕ) → saves_of place counts n (suc K) ≡ marks_of place (slice_index counts K) n ∷ saves_of place counts n K
-unfolding saves_of
-saves_newest place counts n K = refl
 
 -- The numbers in ascending order.
 
@@ -29,44 +19,24 @@ saves_newest place counts n K = refl
 abbrev pub InOrder : ℕ → List ℕ → Type 0
 InOrder n xs = (i : ℕ) → i < n → slice_index xs i ≡ i
 
-pub order_more : (xs : List ℕ) (n : ℕ) → n < length xs → InOrder n xs → InOrder (n + 1) (slice_set xs n n)
-order_more xs n l h i b =
-    elim (cases_eq i n) [
-      | inl e ↦ ap (λ x. slice_index (slice_set xs n n) x) e ∙ get_or-set_same xs n n 0 l ∙ sym e
-      | inr e ↦ get_or-set_other xs n i n 0 e ∙ h i (omega arith)
-    ]
-
 pub all_stand : (place : List ℕ) (n : ℕ) → InOrder n place → marks_of place n n ≡ replicate n true
-unfolding marks_of front
 all_stand place n h = made_all (front place n) n (λ k l. ap (λ x. ltb x n) (h k l) ∙ lt-ltb k n l)
 
 pub all_counted : (place : List ℕ) (n : ℕ) → InOrder n place → trues (marks_of place n n) ≡ n
 all_counted place n h = ap trues (all_stand place n h) ∙ trues_all n
 
-pub order_inverse : (xs ys : List ℕ) (n : ℕ) → InOrder n xs → InOrder n ys → Inverse n xs ys
-order_inverse xs ys n f g k l = let e : slice_index_or xs k 0 ≡ k = f k l in (omega arith, ap (λ x. slice_index ys x) e ∙ g k l)
-
 -- A save more.
 
 saves_keep : (place counts : List ℕ) (n K c x : ℕ) → K ≤ c → saves_of place (slice_set counts c x) n K ≡ saves_of place counts n K
-unfolding saves_of
 saves_keep place counts n zero c x l = refl
-saves_keep place counts n (suc K) c x l =
-    ap (λ y. marks_of place y n ∷ saves_of place (slice_set counts c x) n K) (get_or-set_other counts c K x 0 (λ e. let z : ⊥ = omega arith in z))
-    ∙ ap (λ ss. marks_of place (slice_index counts K) n ∷ ss) (saves_keep place counts n K c x (omega arith))
+saves_keep place counts n (suc K) c x l = let e = saves_keep place counts n K c x (omega arith) in grind (arith, common_steps)
 
 pub saves_saved : (place counts : List ℕ) (n count K : ℕ) → K < length counts
     → saves_of place (slice_set counts K count) n (suc K) ≡ marks_of place count n ∷ saves_of place counts n K
-unfolding saves_of
-saves_saved place counts n count K l =
-    ap (λ y. marks_of place y n ∷ saves_of place (slice_set counts K count) n K) (get_or-set_same counts K count 0 l)
-    ∙ ap (λ ss. marks_of place count n ∷ ss) (saves_keep place counts n K K count (omega arith))
+saves_saved place counts n count K l = let e = saves_keep place counts n K K count (omega arith) in grind (arith, common_steps)
 
 -- places that mean the same at each save's count
 pub saves_same : (place place' counts : List ℕ) (n K : ℕ) → ((i : ℕ) → i < K → marks_of place' (slice_index counts i) n ≡ marks_of place (slice_index counts i) n)
     → saves_of place' counts n K ≡ saves_of place counts n K
-unfolding saves_of
 saves_same place place' counts n zero h = refl
-saves_same place place' counts n (suc K) h =
-    ap (λ m. m ∷ saves_of place' counts n K) (h K (omega arith))
-    ∙ ap (λ ss. marks_of place (slice_index counts K) n ∷ ss) (saves_same place place' counts n K (λ i l. h i (omega arith)))
+saves_same place place' counts n (suc K) h = let e = saves_same place place' counts n K (λ i l. h i (omega arith)) in let f = h K (omega arith) in cc

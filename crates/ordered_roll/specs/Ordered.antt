@@ -4,7 +4,7 @@ use Rattle.roll.specs.Meaning.{Meaning}
 use Rattle.ordered_roll.specs.Places.{marks_of, saves_of}
 use Rattle.ordered_roll.specs.declared.ordered.OrderedRoll.{OrderedRoll}
 
-unfoldable pub meaning_of : OrderedRoll → Meaning
+abbrev pub meaning_of : OrderedRoll → Meaning
 meaning_of p = record {
   marks = marks_of p.lists.place p.count p.size;
   saves = saves_of p.lists.place p.notes.counts p.size p.kept;

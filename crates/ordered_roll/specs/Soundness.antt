@@ -1,5 +1,5 @@
 -- What is true of the meaning of every ordered roll. It stands among the definitions, since the law of the kind cites it.
-use Rattle.std.specs.Prelude.{◌≡◌, ℕ, zero, suc, ◌≤◌, List, length, slice_index, refl}
+use Rattle.std.specs.Prelude.{◌≡◌, ℕ, zero, suc, List, length, slice_index, refl}
 use Rattle.std.proofs.Common.{sym, ap, subst, arith}
 use Rattle.roll.specs.Meaning.{Sized, Sound}
 use Rattle.roll.proofs.Marks.{length-made}
@@ -8,25 +8,19 @@ use Rattle.ordered_roll.specs.Ordered.{meaning_of}
 use Rattle.ordered_roll.specs.declared.ordered.OrderedRoll.{OrderedRoll}
 
 pub length_marks : (place : List ℕ) (c n : ℕ) → length (marks_of place c n) ≡ n
-unfolding marks_of
 length_marks place c n = length-made (front place c) n
 
 pub length_saves : (place counts : List ℕ) (n K : ℕ) → length (saves_of place counts n K) ≡ K
-unfolding saves_of
 length_saves place counts n zero = refl
 length_saves place counts n (suc K) = ap suc (length_saves place counts n K)
 
 pub sized_saves : (place counts : List ℕ) (n K : ℕ) → Sized n (saves_of place counts n K)
-unfolding saves_of
 sized_saves place counts n zero = tt
 sized_saves place counts n (suc K) = (length_marks place (slice_index counts K) n, sized_saves place counts n K)
 
 pub sound_of : (p : OrderedRoll) → Sound 1024 (meaning_of p)
-unfolding meaning_of
 sound_of p =
     let e : length (marks_of p.lists.place p.count p.size) ≡ p.size = length_marks p.lists.place p.count p.size in
-    let s : p.size ≤ 1024 = p.few.0 in
-    let q : p.kept ≤ 32 = p.few.1.0 in
     let z = length_saves p.lists.place p.notes.counts p.size p.kept in
     let P : ℕ → Type 0 = λ x. Sized x (saves_of p.lists.place p.notes.counts p.size p.kept) in
     record { fits = omega arith; sized = subst P (sym e) (sized_saves p.lists.place p.notes.counts p.size p.kept); few = omega arith }

@@ -10,8 +10,6 @@ mod ordered;
 pub use ordered::OrderedRoll;
 
 // An ordered roll lists each number below its size once, and no other.
-pub fn listed_once() -> u8
+pub fn listed_once()
     ensures { ListedOnce }
-{
-    0
-}
+{}

@@ -1,7 +1,8 @@
-ghost use Rattle.std.specs.Prelude.{◌≡◌, ℕ, ◌<◌, ◌≤◌, length, slice_index};
+ghost use Rattle.std.specs.Prelude.{◌≡◌, ℕ, ◌<◌, ◌≤◌, slice_index};
 ghost use Rattle.ordered_roll.specs.Places.{list_after, place_after};
 
-// The numbers below the size, each once, and the place of each in that list.
+// The numbers below the size, each once, and the place of each in that list. Each array leads back from the other,
+// so they are no columns of one table.
 #[derive(Drop)]
 pub(crate) struct Lists {
     pub(crate) list: [u16; 1024],
@@ -14,25 +15,28 @@ impl Lists {
         requires { n ≤ 1024 }
         ensures list { (i : ℕ) → i < n → slice_index self.new.list i ≡ i }
         ensures place { (i : ℕ) → i < n → slice_index self.new.place i ≡ i }
-        ensures long { (length self.new.list ≡ 1024) × (length self.new.place ≡ 1024) }
     {
+        // By number, since a proof does not know what a zip of two `iter_mut` writes.
         for i in 0..n {
-            self.list[i as usize] = i;
-            self.place[i as usize] = i;
+            self.list[usize::from(i)] = i;
+            self.place[usize::from(i)] = i;
         }
     }
 
     // Moves k to the place q, and the number that was there to the place of k.
     pub(crate) fn exchange(&mut self, k: u16, q: u16)
-        requires { (k < 1024) × ((q < 1024) × ((slice_index self.old.place k < 1024) × (slice_index self.old.list q < 1024))) }
+        requires number { k < 1024 }
+        requires place { q < 1024 }
+        requires place_of_number { slice_index self.old.place k < 1024 }
+        requires number_at_place { slice_index self.old.list q < 1024 }
         ensures list { self.new.list ≡ list_after self.old.list self.old.place k q }
         ensures place { self.new.place ≡ place_after self.old.list self.old.place k q }
     {
-        let p = self.place[k as usize];
-        let other = self.list[q as usize];
-        self.list[p as usize] = other;
-        self.list[q as usize] = k;
-        self.place[other as usize] = p;
-        self.place[k as usize] = q;
+        let p = self.place[usize::from(k)];
+        let other = self.list[usize::from(q)];
+        self.list[usize::from(p)] = other;
+        self.list[usize::from(q)] = k;
+        self.place[usize::from(other)] = p;
+        self.place[usize::from(k)] = q;
     }
 }

@@ -1,4 +1,4 @@
-ghost use Rattle.std.specs.Prelude.{◌≡◌, ℕ, ◌+◌, ◌<◌, ◌≤◌, length, slice_index};
+ghost use Rattle.std.specs.Prelude.{◌≡◌, ℕ, ◌+◌, ◌<◌, ◌≤◌, slice_index};
 ghost use Rattle.ordered_roll.specs.Places.{Inverse, marks_of};
 ghost use Rattle.roll.specs.Meaning.{trues};
 
@@ -6,7 +6,7 @@ use crate::lists::Lists;
 
 pub mod kind;
 
-// How many numbers stood at each save, the oldest first.
+// How many numbers stood at each save, the oldest first. Memory is fixed, so the number of saves is kept apart.
 #[derive(Drop)]
 pub(crate) struct Notes {
     pub(crate) counts: [u16; 32],
@@ -21,8 +21,9 @@ pub struct OrderedRoll {
     size: u32,
     count: u32,
     kept: u32,
-    ghost long: { (length lists.list ≡ 1024) × ((length lists.place ≡ 1024) × (length notes.counts ≡ 32)) },
-    ghost few: { (size ≤ 1024) × ((kept ≤ 32) × (count ≤ size)) },
+    ghost fits: { size ≤ 1024 },
+    ghost few: { kept ≤ 32 },
+    ghost within: { count ≤ size },
     ghost placed: { Inverse size lists.place lists.list },
     ghost listed: { Inverse size lists.list lists.place },
     ghost counted: { trues (marks_of lists.place count size) ≡ count },

@@ -10,30 +10,29 @@ pub(crate) enum Call {
     Back,
 }
 
-// What a call returned (0 where it was accepted, else the number of the refusal; for a strike, 1 where the
-// number stood), and what the roll then tells.
+// What a call returned: an answer, or for a strike whether the number stood.
+#[derive(Clone, Copy, Debug, PartialEq, Eq)]
+pub(crate) enum Returned {
+    Answered(Result<(), Refusal>),
+    Struck(bool),
+}
+
+// What a call returned, and what the roll then tells.
 #[derive(Clone, Copy, Debug, PartialEq, Eq)]
 pub(crate) struct Seen {
-    pub(crate) returned: u8,
+    pub(crate) returned: Returned,
     pub(crate) size: u32,
     pub(crate) count: u32,
     pub(crate) kept: u32,
     pub(crate) free: u32,
 }
 
-pub(crate) fn number(answer: Result<(), Refusal>) -> u8 {
-    match answer {
-        Ok(()) => 0,
-        Err(refusal) => refusal.number(),
-    }
-}
-
 pub(crate) fn make<R: Roll>(roll: &mut R, call: Call) -> Seen {
     let returned = match call {
-        Call::Begin(n) => number(roll.begin(n)),
-        Call::Strike(k) => u8::from(roll.strike(k)),
-        Call::Save => number(roll.save()),
-        Call::Back => number(roll.back()),
+        Call::Begin(n) => Returned::Answered(roll.begin(n)),
+        Call::Strike(k) => Returned::Struck(roll.strike(k)),
+        Call::Save => Returned::Answered(roll.save()),
+        Call::Back => Returned::Answered(roll.back()),
     };
     Seen {
         returned,

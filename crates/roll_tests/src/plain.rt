@@ -1,13 +1,13 @@
-// A roll kept in the plainest way, to compare with: for each number, how many saves were kept when it was
-// struck. Going back to a save lets stand again what was struck since.
-const STANDS: u8 = 255;
+// A roll kept in the plainest way, to compare with: for each number that was struck, how many saves were kept
+// then, and none for one that stands. Going back to a save lets stand again what was struck since.
+use refusal::Refusal;
 
 #[derive(Drop)]
 pub(crate) struct Plain {
     most: u32,
     size: u32,
     kept: u8,
-    struck: [u8; 4096],
+    struck: [Option<u8>; 4096],
 }
 
 impl Plain {
@@ -16,79 +16,72 @@ impl Plain {
             most,
             size: 0,
             kept: 0,
-            struck: [STANDS; 4096],
+            struck: [None; 4096],
         }
     }
 
-    pub(crate) fn begin(&mut self, n: u32) -> u8 {
+    pub(crate) fn begin(&mut self, n: u32) -> Result<(), Refusal> {
         if n > self.most {
-            return 9;
+            return Err(Refusal::AboveMost);
         }
         self.size = n;
         self.kept = 0;
-        self.struck = [STANDS; 4096];
-        0
+        self.struck = [None; 4096];
+        Ok(())
     }
 
     pub(crate) fn stands(&self, k: u32) -> bool {
-        k < self.size && k < 4096 && self.struck[k as usize] == STANDS
+        k < self.size && self.struck.get(k as usize) == Some(&None)
     }
 
-    pub(crate) fn strike(&mut self, k: u32) -> u8 {
-        if k < 4096 && self.stands(k) {
-            self.struck[k as usize] = self.kept;
-            1
-        } else {
-            0
+    pub(crate) fn strike(&mut self, k: u32) -> bool {
+        match self.struck.get_mut(k as usize) {
+            Some(struck) if k < self.size && struck.is_none() => {
+                *struck = Some(self.kept);
+                true
+            }
+            _ => false,
         }
     }
 
-    pub(crate) fn save(&mut self) -> u8 {
+    pub(crate) fn save(&mut self) -> Result<(), Refusal> {
         if self.kept >= 32 {
-            return 11;
+            return Err(Refusal::NoSaveFree);
         }
         self.kept += 1;
-        0
+        Ok(())
     }
 
-    pub(crate) fn back(&mut self) -> u8 {
+    pub(crate) fn back(&mut self) -> Result<(), Refusal> {
         if self.kept == 0 {
-            return 12;
+            return Err(Refusal::NoSaveKept);
         }
-        let newest = self.kept;
-        self.kept = newest - 1;
-        for k in 0..4096 {
-            if self.struck[k] == newest {
-                self.struck[k] = STANDS;
+        for struck in self.struck.iter_mut() {
+            if *struck == Some(self.kept) {
+                *struck = None;
             }
         }
-        0
+        self.kept -= 1;
+        Ok(())
     }
 
     pub(crate) fn size(&self) -> u32 {
         self.size
     }
 
-    pub(crate) fn kept(&self) -> u32 {
-        self.kept as u32
+    pub(crate) fn count(&self) -> u32 {
+        (0..self.size).filter(|k| self.stands(*k)).count() as u32
     }
 
-    pub(crate) fn count(&self) -> u32 {
-        let mut count = 0u32;
-        for k in 0..4096 {
-            if self.stands(k) {
-                count = count.saturating_add(1);
-            }
-        }
-        count
+    pub(crate) fn kept(&self) -> u32 {
+        u32::from(self.kept)
+    }
+
+    pub(crate) fn free(&self) -> u32 {
+        32u32.saturating_sub(self.kept())
     }
 
     pub(crate) fn first_from(&self, place: u32) -> Option<u32> {
-        for k in place..4096 {
-            if self.stands(k) {
-                return Some(k);
-            }
-        }
-        None
+        (place..self.size).find(|k| self.stands(*k))
     }
 }

@@ -1,5 +1,5 @@
 // Long random scripts of calls, on each kind beside a plain roll.
-use crate::calls::{Call, Seen, make};
+use crate::calls::Call;
 use crate::plain::Plain;
 use ordered_roll::OrderedRoll;
 use packed_roll::PackedRoll;
@@ -49,21 +49,18 @@ fn choose(random: &mut Random, saves: u32, size: u32) -> Call {
     }
 }
 
-fn make_plain(plain: &mut Plain, call: Call) -> Seen {
-    let returned = match call {
-        Call::Begin(n) => plain.begin(n),
-        Call::Strike(k) => plain.strike(k),
-        Call::Save => plain.save(),
-        Call::Back => plain.back(),
-    };
-    let kept = plain.kept();
-    Seen {
-        returned,
-        size: plain.size(),
-        count: plain.count(),
-        kept,
-        free: 32u32.saturating_sub(kept),
+// Makes the call on both, which then answer and tell the same.
+fn call_both<R: Roll>(rt: &impl Abort, roll: &mut R, plain: &mut Plain, call: Call) {
+    match call {
+        Call::Begin(n) => assert_eq!(rt; roll.begin(n), plain.begin(n)),
+        Call::Strike(k) => assert_eq!(rt; roll.strike(k), plain.strike(k)),
+        Call::Save => assert_eq!(rt; roll.save(), plain.save()),
+        Call::Back => assert_eq!(rt; roll.back(), plain.back()),
     }
+    assert_eq!(rt; roll.size(), plain.size());
+    assert_eq!(rt; roll.count(), plain.count());
+    assert_eq!(rt; roll.kept(), plain.kept());
+    assert_eq!(rt; roll.free(), plain.free());
 }
 
 fn same_numbers<R: Roll>(rt: &impl Abort, roll: &R, plain: &Plain) {
@@ -79,7 +76,7 @@ fn script<R: Roll + Drop>(rt: &impl Abort, seed: u32, saves: u32, calls: u32) {
     let mut plain = Plain::new(R::MOST.get());
     for i in 0..calls {
         let call = choose(&mut random, saves, plain.size());
-        assert_eq!(rt; make(&mut roll, call), make_plain(&mut plain, call));
+        call_both(rt, &mut roll, &mut plain, call);
         let place = random.below(plain.size().saturating_add(2));
         assert_eq!(rt; roll.first_from(place), plain.first_from(place));
         if i % 500 == 0 {

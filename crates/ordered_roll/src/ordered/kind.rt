@@ -61,7 +61,7 @@ impl Roll for OrderedRoll {
     }
 
     fn stands(&self, k: u32) -> bool {
-        k < self.size && (self.lists.place[k as usize] as u32) < self.count
+        k < self.size && u32::from(self.lists.place[k as usize]) < self.count
     }
 
     fn count(&self) -> u32 {
@@ -77,12 +77,7 @@ impl Roll for OrderedRoll {
     }
 
     fn first_from(&self, place: u32) -> Option<u32> {
-        for k in place..self.size {
-            if (self.lists.place[k as usize] as u32) < self.count {
-                return Some(k);
-            }
-        }
-        None
+        (place..self.size).find(|k| self.stands(*k))
     }
 
     fn save(&mut self) -> Result<(), Refusal> {
@@ -99,7 +94,7 @@ impl Roll for OrderedRoll {
         if self.kept == 0 {
             return Err(Refusal::NoSaveKept);
         }
-        self.count = self.notes.counts[(self.kept - 1) as usize] as u32;
+        self.count = u32::from(self.notes.counts[(self.kept - 1) as usize]);
         self.kept -= 1;
         Ok(())
     }

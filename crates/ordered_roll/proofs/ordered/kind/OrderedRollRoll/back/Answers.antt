@@ -1,36 +1,24 @@
-use Rattle.std.proofs.Common.{◌≡◌, ℕ, suc, ◌-◌, arith}
-use Rattle.ordered_roll.specs.Ordered.{meaning_of}
-use Rattle.ordered_roll.proofs.Invariant.{parts_of, held_by, back_none, holds_back, back_is}
+use Rattle.std.proofs.Common.{◌≡◌, ℕ, ◌+◌, ◌-◌, sym, subst, arith}
+use Rattle.roll.specs.Meaning.{trues}
+use Rattle.ordered_roll.specs.Places.{marks_of}
 use Rattle.ordered_roll.proofs.ordered.kind.OrderedRollRoll.back.Goals as goal
-
-pub returns-then-self-eq0 : goal.returns-then-self-eq0
-unfolding meaning_of
-returns-then-self-eq0 c =
-    let d = back_none (parts_of c.args.self.now) c.if-self-eq0.true in
-    record { answer = d.answer; after = d.after }
 
 pub invariant_of-self : goal.invariant_of-self
 invariant_of-self c =
     let p = c.args.self.now in
-    let K : ℕ = p.kept - 1 in
-    let n : p.kept ≡ suc K = let t = c.if-self-eq0.false in omega arith in
-    let h = holds_back (parts_of p) K (held_by p) n in
+    let stood = c.from-self.ensures in
+    let P : ℕ → Type 0 = λ n. trues (marks_of p.lists.place n p.size) ≡ n in
     record {
-      long = h.long;
-      few = (h.few.0, (omega arith, h.few.1.1));
-      placed = h.placed;
-      listed = h.listed;
-      counted = h.counted;
-      falling = λ i d l. h.falling i d (omega arith);
-      fewer = h.fewer;
-      saves_counted = h.saves_counted;
+      fits = p.fits;
+      few = omega arith;
+      within = let f = p.fewer (p.kept - 1) (omega arith) in omega arith;
+      placed = p.placed;
+      listed = p.listed;
+      counted = subst P (sym stood) (p.saves_counted (p.kept - 1) (omega arith));
+      falling = λ i d l. p.falling i d (omega arith);
+      fewer = λ i l.
+          let e : i + (p.kept - 1 - i) ≡ p.kept - 1 = omega arith in
+          let f = rw e at (p.falling i (p.kept - 1 - i) (omega arith)) in
+          (omega arith, (p.fewer i (omega arith)).1);
+      saves_counted = λ i l. p.saves_counted i (omega arith);
     }
-
-pub returns : goal.returns
-unfolding meaning_of
-returns c =
-    let p = c.args.self.now in
-    let K : ℕ = p.kept - 1 in
-    let n : p.kept ≡ suc K = let t = c.if-self-eq0.false in omega arith in
-    let d = back_is (parts_of p) K (held_by p) n in
-    record { answer = d.answer; after = d.after }

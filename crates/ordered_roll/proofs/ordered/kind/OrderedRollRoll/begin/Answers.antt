@@ -1,29 +1,16 @@
-use Rattle.std.proofs.Common.{◌≤◌, arith}
+use Rattle.std.proofs.Common.{[], ◌∙◌, arith}
+use Rattle.roll.proofs.Calls.{begin_done}
 use Rattle.ordered_roll.specs.Ordered.{meaning_of}
-use Rattle.ordered_roll.proofs.Invariant.{parts_of, held_by, holds_begin, begin_is}
+use Rattle.ordered_roll.proofs.PlaceLaws.{all_stand, all_counted}
 use Rattle.ordered_roll.proofs.ordered.kind.OrderedRollRoll.begin.Goals as goal
 
-pub invariant_of-self : goal.invariant_of-self
-invariant_of-self c =
-    let p = c.args.self.now in
-    let f = c.fill.new.self in
-    let l : c.args.n ≤ 1024 = omega arith in
-    let h = holds_begin (parts_of p) f.list f.place c.args.n l c.fill.ensures.long c.fill.ensures.list c.fill.ensures.place (held_by p) in
-    record {
-      long = h.long;
-      few = h.few;
-      placed = h.placed;
-      listed = h.listed;
-      counted = h.counted;
-      falling = h.falling;
-      fewer = h.fewer;
-      saves_counted = h.saves_counted;
-    }
+pub invariant_of-self-clause-fits : goal.invariant_of-self-clause-fits
+invariant_of-self-clause-fits c = omega arith
 
-pub returns : goal.returns
-unfolding meaning_of
-returns c =
-    let f = c.fill.new.self in
-    let l : c.args.n ≤ 1024 = omega arith in
-    let d = begin_is (parts_of c.args.self.now) f.list f.place c.args.n l c.fill.ensures.place in
-    record { answer = d.answer; after = d.after }
+pub invariant_of-self-clause-counted : goal.invariant_of-self-clause-counted
+invariant_of-self-clause-counted c = all_counted c.fill.new.self.place c.args.n c.fill.ensures.place
+
+pub returns-clause-after : goal.returns-clause-after
+returns-clause-after c =
+    let all = all_stand c.fill.new.self.place c.args.n c.fill.ensures.place in
+    (λ i. record { marks = all i; saves = []; free = 32 }) ∙ (begin_done 1024 c.args.n (meaning_of c.args.self.now) (omega arith)).after

@@ -1,36 +1,26 @@
-use Rattle.std.proofs.Common.{◌≡◌, ℕ, ◌<◌, ◌≤◌, false, ltb, get_or, sym, ◌∙◌, inl, inr, arith}
-use Rattle.std.proofs.lemmas.Bool.{cases_lt, lt-ltb, le-ltb}
-use Rattle.roll.specs.Meaning.{stands_at}
+use Rattle.std.proofs.Common.{◌≡◌, ℕ, ◌<◌, ◌≤◌, true, false, Some, None, Option, MatchOption, sym, inl, inr, rules, arith}
+use Rattle.std.proofs.lemmas.Bool.{cases_lt}
+use Rattle.std.proofs.lemmas.List.{get_or_past}
+use Rattle.std.proofs.lemmas.Iterator.{first_from_Range}
+use Rattle.roll.specs.Meaning.{Meaning, first_at, size_of, stands_at}
 use Rattle.roll.proofs.First.{lowest_is, none_is}
 use Rattle.ordered_roll.specs.Ordered.{meaning_of}
-use Rattle.ordered_roll.specs.declared.ordered.OrderedRoll.{OrderedRoll}
-use Rattle.ordered_roll.proofs.PlaceLaws.{marks_at, marks_past}
+use Rattle.ordered_roll.specs.Soundness.{length_marks}
 use Rattle.ordered_roll.proofs.ordered.kind.OrderedRollRoll.first_from.Goals as goal
 
-at : (p : OrderedRoll) (k : ℕ) → k < p.size → stands_at (meaning_of p) k ≡ ltb (get_or p.lists.place k 0) p.count
-unfolding meaning_of
-at p k l = marks_at p.lists.place p.count p.size k l
-
-past : (p : OrderedRoll) (k : ℕ) → p.size ≤ k → stands_at (meaning_of p) k ≡ false
-unfolding meaning_of
-past p k l = marks_past p.lists.place p.count p.size k l
-
-pub returns-then-self-k : goal.returns-then-self-k
-returns-then-self-k c =
-    let p = c.args.self.now in
-    let k : ℕ = c.loop-k.k in
-    let t : k < p.size = c.loop-k-test.true in
-    sym (lowest_is (meaning_of p) c.args.place k (record {
-      from = c.loop-k.auto.k;
-      here = at p k t ∙ lt-ltb (get_or p.lists.place k 0) p.count (let f = c.if-self-k.true in omega arith);
-      before = λ i a b. let d : i < p.size = omega arith in at p i d ∙ le-ltb (get_or p.lists.place i 0) p.count (c.loop-k.invariant i a b d);
-    }))
+-- what a search of the numbers from p up to n finds is the first that stands, where no size is above n
+found : (m : Meaning) (p n : ℕ) (r : Option ℕ) → size_of m ≤ n
+    → MatchOption r ((k : ℕ) → p ≤ k → k < n → stands_at m k ≡ false)
+    (λ i. (p ≤ i) × (i < n) × (stands_at m i ≡ true) × ((k : ℕ) → p ≤ k → k < i → stands_at m k ≡ false))
+    → r ≡ first_at m p
+found m p n None l h =
+    sym (none_is m p (λ k a. elim (cases_lt k n) [ inl b ↦ h k a b | inr b ↦ get_or_past m.marks k false (omega arith) ]))
+found m p n (Some i) l h = sym (lowest_is m p i (record { from = h.0; here = h.2; before = h.3 }))
 
 pub returns : goal.returns
 returns c =
     let p = c.args.self.now in
-    sym (none_is (meaning_of p) c.args.place (λ i a.
-    elim (cases_lt i p.size) [
-      | inl l ↦ at p i l ∙ le-ltb (get_or p.lists.place i 0) p.count (c.loop-k.invariant i a (let z = c.loop-k-test.false in omega arith) l)
-      | inr l ↦ past p i l
-    ]))
+    let m = meaning_of p in
+    let size = length_marks p.lists.place p.count p.size in
+    found m c.args.place p.size c.find.result (omega arith)
+    (first_from_Range _ _ _ _ (λ k. stands_at m k ≡ true) (λ k. stands_at m k ≡ false) c.find.ensures.ran (λ x q k. search rules) (λ x q k. search rules))

@@ -1,37 +1,33 @@
-use Rattle.std.proofs.Common.{◌≡◌, ℕ, suc, ◌+◌, ◌<◌, ap, ◌∙◌, subst, arith}
+use Rattle.std.proofs.Common.{◌≡◌, ◌+◌, ◌-◌, ◌<◌, ◌∷◌, length, set, ◌∙◌, arith}
+use Rattle.std.proofs.Math.Numerals.{add-one}
+use Rattle.std.proofs.lemmas.Grind.{common_steps}
+use Rattle.roll.proofs.Calls.{save_done}
 use Rattle.ordered_roll.specs.Ordered.{meaning_of}
-use Rattle.ordered_roll.proofs.Invariant.{Parts, Holds, parts_of, with_kept, held_by, means, saved_parts, save_none, holds_save, save_is}
+use Rattle.ordered_roll.specs.Places.{saves_of}
+use Rattle.ordered_roll.proofs.PlaceLaws.{saves_saved}
 use Rattle.ordered_roll.proofs.ordered.kind.OrderedRollRoll.save.Goals as goal
-
-pub returns-then-self-eq32 : goal.returns-then-self-eq32
-unfolding meaning_of
-returns-then-self-eq32 c =
-    let d = save_none (parts_of c.args.self.now) c.if-self-eq32.true in
-    record { answer = d.answer; after = d.after }
 
 pub invariant_of-self : goal.invariant_of-self
 invariant_of-self c =
     let p = c.args.self.now in
-    let l : p.kept < 32 = let t = c.if-self-eq32.false in let q = p.few.1.0 in omega arith in
-    let s : Parts = saved_parts (parts_of p) in
-    let P : ℕ → Type 0 = λ n. Holds (with_kept s n) in
-    let h : P (p.kept + 1) = subst P (omega arith) (holds_save (parts_of p) (held_by p) l) in
+    let noted : p.kept < length p.notes.counts = omega arith in
     record {
-      long = h.long;
-      few = (h.few.0, (omega arith, h.few.1.1));
-      placed = h.placed;
-      listed = h.listed;
-      counted = h.counted;
-      falling = h.falling;
-      fewer = h.fewer;
-      saves_counted = h.saves_counted;
+      fits = p.fits;
+      few = omega arith;
+      within = p.within;
+      placed = p.placed;
+      listed = p.listed;
+      counted = p.counted;
+      falling = grind (arith, common_steps);
+      fewer = grind (arith, common_steps);
+      saves_counted = grind (arith, common_steps);
     }
 
-pub returns : goal.returns
-unfolding meaning_of
-returns c =
+pub returns-clause-after : goal.returns-clause-after
+returns-clause-after c =
     let p = c.args.self.now in
-    let l : p.kept < 32 = let t = c.if-self-eq32.false in let q = p.few.1.0 in omega arith in
-    let d = save_is (parts_of p) (held_by p) l in
-    let e : p.kept + 1 ≡ suc p.kept = omega arith in
-    record { answer = d.answer; after = ap (λ n. means (with_kept (saved_parts (parts_of p)) n)) e ∙ d.after }
+    let m = meaning_of p in
+    let saves : saves_of p.lists.place (set p.notes.counts p.kept p.count) p.size (p.kept + 1) ≡ m.marks ∷ m.saves
+    = rw add-one (saves_saved p.lists.place p.notes.counts p.size p.count p.kept (omega arith)) in
+    let free : 32 - (p.kept + 1) ≡ 32 - p.kept - 1 = omega arith in
+    (λ i. record { marks = m.marks; saves = saves i; free = free i }) ∙ (save_done m (omega arith)).after

@@ -1,8 +1,6 @@
 use Rattle.std.proofs.Common.{arith}
-use Rattle.ordered_roll.specs.Ordered.{meaning_of}
 use Rattle.ordered_roll.specs.Soundness.{length_marks}
 use Rattle.ordered_roll.proofs.ordered.kind.OrderedRollRoll.size.Goals as goal
 
 pub returns : goal.returns
-unfolding meaning_of
 returns c = let p = c.args.self.now in let e = length_marks p.lists.place p.count p.size in omega arith
