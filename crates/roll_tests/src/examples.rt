@@ -4,7 +4,7 @@ use crate::calls::{Call, Returned, Seen, make};
 use ordered_roll::OrderedRoll;
 use packed_roll::PackedRoll;
 use refusal::Refusal::{AboveMost, NoSaveFree, NoSaveKept};
-use roll::{Limit, Roll, begin_both, strike_all};
+use roll::{Roll, begin_both, strike_all};
 use std::process::Abort;
 
 const DONE: Returned = Answered(Ok(()));
@@ -133,7 +133,7 @@ fn needs_a_save<R: Roll + Drop>(rt: &impl Abort) {
 
 // The most of the kind is taken; one more is declined, and alters nothing.
 fn begins_up_to<R: Roll + Drop>(rt: &impl Abort, most: u32) {
-    assert_eq!(rt; R::MOST.get(), most);
+    assert_eq!(rt; R::MOST, most);
     let last = most.saturating_sub(1);
     let more = most.saturating_add(1);
     let mut roll = R::new();
@@ -249,20 +249,20 @@ fn serves_generic_calls<R: Roll + Drop, V: Roll + Drop>(rt: &impl Abort) {
     let mut rows = R::new();
     let mut values = V::new();
     assert_eq!(rt;
-        begin_both(&mut rows, &mut values, R::MOST.get().saturating_add(1), 7),
+        begin_both(&mut rows, &mut values, R::MOST.saturating_add(1), 7),
         Err(AboveMost)
     );
     assert_eq!(rt;
-        begin_both(&mut rows, &mut values, 7, V::MOST.get().saturating_add(1)),
+        begin_both(&mut rows, &mut values, 7, V::MOST.saturating_add(1)),
         Err(AboveMost)
     );
     assert_eq!(rt; rows.size() + values.size(), 0);
     assert_eq!(rt;
-        begin_both(&mut rows, &mut values, R::MOST.get(), V::MOST.get()),
+        begin_both(&mut rows, &mut values, R::MOST, V::MOST),
         Ok(())
     );
-    assert_eq!(rt; rows.size(), R::MOST.get());
-    assert_eq!(rt; values.size(), V::MOST.get());
+    assert_eq!(rt; rows.size(), R::MOST);
+    assert_eq!(rt; values.size(), V::MOST);
     assert_eq!(rt; begin_both(&mut rows, &mut values, 70, 40), Ok(()));
     assert_eq!(rt; strike_all(&mut rows, &[0, 69, 70, 0, 64, 1000]), 3);
     assert_eq!(rt; strike_all(&mut values, &[]), 0);

@@ -3,7 +3,7 @@ use crate::calls::Call;
 use crate::plain::Plain;
 use ordered_roll::OrderedRoll;
 use packed_roll::PackedRoll;
-use roll::{Limit, Roll};
+use roll::Roll;
 use std::process::Abort;
 
 // A fixed sequence of numbers that look random (xorshift).
@@ -73,7 +73,7 @@ fn same_numbers<R: Roll>(rt: &impl Abort, roll: &R, plain: &Plain) {
 fn script<R: Roll + Drop>(rt: &impl Abort, seed: u32, saves: u32, calls: u32) {
     let mut random = Random { state: seed };
     let mut roll = R::new();
-    let mut plain = Plain::new(R::MOST.get());
+    let mut plain = Plain::new(R::MOST);
     for i in 0..calls {
         let call = choose(&mut random, saves, plain.size());
         call_both(rt, &mut roll, &mut plain, call);

@@ -5,18 +5,14 @@ ghost use Rattle.std.proofs.Common.{rules};
 use crate::lists::Lists;
 use crate::ordered::{Notes, OrderedRoll};
 use refusal::Refusal;
-use roll::{Exactly, Roll};
+use roll::Roll;
 
 impl Roll for OrderedRoll {
-    type Most = Exactly<1024>;
+    const MOST: u32 = 1024;
 
-    const MOST: Exactly<1024> = Exactly { value: 1024 };
-
-    ghost most = { 1024 };
+    ghost MOST = { 1024 };
 
     ghost meaning = { meaning_of };
-
-    ghost same = { Prim.search rules };
 
     ghost few = { Prim.search rules };
 
@@ -36,7 +32,7 @@ impl Roll for OrderedRoll {
     }
 
     fn begin(&mut self, n: u32) -> Result<(), Refusal> {
-        if n > Self::MOST.value {
+        if n > Self::MOST {
             return Err(Refusal::AboveMost);
         }
         self.lists.fill(n as u16);
