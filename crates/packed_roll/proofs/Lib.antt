@@ -1,1 +1,5 @@
 pub mod BitLaws
+pub mod FirstLaws
+pub mod Restoring
+pub mod TrailLaws
+pub mod WordLaws
