@@ -2,7 +2,7 @@
 use Rattle.std.specs.Prelude.{◌≡◌, ℕ, ◌+◌, ◌-◌, ◌*◌, ◌/◌, ◌%◌, ◌^◌, ◌<◌, ◌≤◌, min, Bool, true, false, if◌then◌else◌, List, map, Some, None, Option, ◌==◌, bit_xor, slice_index}
 use Rattle.std.specs.Int.{bit_at}
 use Rattle.std.specs.List.{range_with_len}
-use Rattle.roll.specs.Meaning.{Marks}
+use Rattle.roll.specs.Meaning.{Marks, trues}
 
 -- whether bit j of the word w is set
 unfoldable pub bit : ℕ → ℕ → Bool
@@ -35,6 +35,11 @@ word_in ws w = slice_index ws w
 -- no number from n on stands
 abbrev pub Clear : ℕ → (ℕ → ℕ) → Type 0
 Clear n f = (k : ℕ) → mark f (n + k) ≡ false
+
+-- count numbers stand, all of them below n
+pub record Tallied (n count : ℕ) (f : ℕ → ℕ) : Type 0 where
+  pub clear : Clear n f
+  pub counted : trues (marks_of f n) ≡ count
 
 -- the word w where just the numbers below n stand
 unfoldable pub full : ℕ → ℕ → ℕ

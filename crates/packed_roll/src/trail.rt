@@ -1,5 +1,5 @@
-ghost use Rattle.std.specs.Prelude.{◌≡◌, ◌<◌, ◌≤◌};
-ghost use Rattle.packed_roll.specs.Trail.{noting, saves_noting};
+ghost use Rattle.std.specs.Prelude.{◌≡◌, ◌-◌, ◌<◌, ◌≤◌, length};
+ghost use Rattle.packed_roll.specs.Trail.{noting, save_at, saves_noting};
 
 use crate::bits::has_bit;
 
@@ -16,7 +16,8 @@ impl Save {
     // Before the word w, so far `old`, is overwritten: keeps it, unless it was overwritten since the save already.
     pub(crate) fn note(&mut self, w: u32, old: u64)
         requires { w < 64 }
-        ensures { self.new ≡ noting self.old w old }
+        ensures noted { self.new ≡ noting self.old w old }
+        ensures within { w < length self.old.words }
     {
         if !has_bit(self.noted, w) {
             self.noted ^= 1 << w;
@@ -36,7 +37,8 @@ impl Trail {
     pub(crate) fn note(&mut self, kept: u32, w: u32, old: u64)
         requires saves { kept ≤ 32 }
         requires word { w < 64 }
-        ensures { self.new.saves ≡ saves_noting self.old.saves kept w old }
+        ensures noted { self.new.saves ≡ saves_noting self.old.saves kept w old }
+        ensures within { 0 < kept → w < length (save_at self.old.saves (kept - 1)).words }
     {
         if kept > 0 {
             self.saves[(kept - 1) as usize].note(w, old);
