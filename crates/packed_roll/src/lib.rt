@@ -14,5 +14,4 @@ pub use packed::PackedRoll;
 // No packed roll has a bit set at or above its size, now or at a save.
 pub fn no_bit_beyond()
     ensures { NoBitBeyond }
-{
-}
+{}

@@ -28,7 +28,11 @@ impl Roll for PackedRoll {
         PackedRoll {
             words: Words { bits: [0; 64] },
             trail: Trail {
-                saves: [Save { noted: 0, words: [0; 64], count: 0 }; 32],
+                saves: [Save {
+                    noted: 0,
+                    words: [0; 64],
+                    count: 0,
+                }; 32],
             },
             size: 0,
             count: 0,

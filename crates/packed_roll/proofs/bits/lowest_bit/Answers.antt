@@ -1,4 +1,4 @@
-use Rattle.std.proofs.Common.{◌-◌, ◌/◌, ◌^◌, ap, ◌∙◌, arith}
+use Rattle.std.proofs.Common.{◌-◌, ap, ◌∙◌, arith}
 use Rattle.packed_roll.specs.Words.{bit}
 use Rattle.packed_roll.proofs.BitLaws.{bit_past, bit-zero, lowest_from}
 use Rattle.packed_roll.proofs.bits.lowest_bit.Goals as goal

@@ -1,4 +1,4 @@
-use Rattle.std.proofs.Common.{ℕ, ◌^◌, ◌<◌, sym, subst, get_or, set, arith}
+use Rattle.std.proofs.Common.{ℕ, ◌<◌, sym, subst, get_or, set, arith}
 use Rattle.std.proofs.lemmas.Nat.{one_shl}
 use lib.Bits.{bit_xor}
 use lib.Count.{count_trailing_zeros}

@@ -1,4 +1,4 @@
-use Rattle.std.proofs.Common.{◌≡◌, ℕ, ◌-◌, ◌/◌, ◌<◌, ◌≤◌, true, List, length, get_or, sym, ap, ◌∙◌, subst, arith}
+use Rattle.std.proofs.Common.{◌≡◌, ℕ, ◌-◌, ◌/◌, ◌<◌, ◌≤◌, true, List, length, sym, ◌∙◌, subst, arith}
 use Rattle.roll.specs.Meaning.{stands_at}
 use Rattle.roll.proofs.Counting.{struck_out}
 use Rattle.roll.proofs.First.{stands_below}
@@ -8,7 +8,7 @@ use Rattle.packed_roll.specs.Trail.{save_at, saves_noting}
 use Rattle.packed_roll.specs.declared.trail.Save.{Save}
 use Rattle.packed_roll.specs.declared.packed.PackedRoll.{PackedRoll}
 use Rattle.packed_roll.proofs.WordLaws.{marks_at}
-use Rattle.packed_roll.proofs.Invariant.{SavesKept, saves_kept, Parts, Holds, parts_of, means, held_by, struck_parts, count_less, holds_strike, strike_is}
+use Rattle.packed_roll.proofs.Invariant.{SavesKept, saves_kept, Parts, parts_of, held_by, count_less, holds_strike, strike_is}
 use Rattle.packed_roll.specs.Soundness.{length_marks}
 use Rattle.packed_roll.proofs.packed.kind.PackedRollRoll.strike.Goals as goal
 
