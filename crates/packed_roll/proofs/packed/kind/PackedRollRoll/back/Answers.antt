@@ -1,4 +1,4 @@
-use Rattle.std.proofs.Common.{◌≡◌, ℕ, suc, ◌-◌, arith}
+use Rattle.std.proofs.Common.{◌≡◌, ℕ, suc, ◌-◌, ◌<◌, arith}
 use Rattle.std.proofs.lemmas.List.{set-get_or}
 use Rattle.packed_roll.specs.Packed.{meaning_of}
 use Rattle.packed_roll.specs.Words.{word_in}
@@ -17,7 +17,7 @@ invariant_of-self c =
     let K : ℕ = p.kept - 1 in
     let n : p.kept ≡ suc K = let t = c.if-self-eq0.false in omega arith in
     let h = holds_back (parts_of p) (word_in c.restore.new.self.bits) _ K (held_by p) n c.restore.ensures (set-get_or p.trail.saves K _) in
-    record { few = h.few; few_saves = omega arith; now = h.now; at_saves = λ i l. h.at_saves i (omega arith) }
+    record { few = h.few; few_saves = omega arith; now = h.now; at_saves = λ i l. let b : i < K = omega arith in h.at_saves i b }
 
 pub returns : goal.returns
 unfolding meaning_of
