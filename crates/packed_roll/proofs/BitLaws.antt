@@ -9,7 +9,6 @@ use Rattle.packed_roll.specs.Words.{bit, LowestBit}
 
 -- a bit is turned: the others stay
 pub bit_turned_other : (w i j : ℕ) → i ≢ j → bit (bit_xor w (2 ^ j)) i ≡ bit w i
-unfolding bit
 bit_turned_other w i j n =
     let l = bit_at-lt w i in
     let z = bit_at-pow_other j i n in
@@ -22,30 +21,24 @@ odd_turned (suc zero) l = refl
 odd_turned (suc (suc x)) l = absurd (omega arith)
 
 pub bit_turned_same : (w j : ℕ) → bit (bit_xor w (2 ^ j)) j ≡ not (bit w j)
-unfolding bit
 bit_turned_same w j =
     ap (λ x. eqb x 1) (bit_at_xor w (2 ^ j) j) ∙ ap (λ x. eqb ((bit_at w j + x) % 2) 1) (bit_at-pow_same j) ∙ odd_turned (bit_at w j) (bit_at-lt w j)
 
 pub bit_ones : (r j : ℕ) → j < r → bit (2 ^ r - 1) j ≡ true
-unfolding bit
 bit_ones r j l = ap (λ x. eqb x 1) (bit_at_ones r j l)
 
 pub bit_ones_past : (r j : ℕ) → r ≤ j → bit (2 ^ r - 1) j ≡ false
-unfolding bit
 bit_ones_past r j l = ap (λ x. eqb x 1) (bit_at_ones_above r j l)
 
 pub bit-zero : (j : ℕ) → bit 0 j ≡ false
-unfolding bit
 bit-zero j = ap (λ x. eqb x 1) (bit_at-zero j)
 
 -- a bit of a number of k bits is one of the k
 pub bit_within : (w k i : ℕ) → w < 2 ^ k → bit w i ≡ true → i < k
-unfolding bit
 bit_within w k i l h =
     elim (cases_lt i k) [ inl b ↦ b | inr b ↦ absurd (true≢false (sym h ∙ ap (λ x. eqb x 1) (bit_at_above w k i l b))) ]
 
 pub bit_shifted : (w j t : ℕ) → bit (w / 2 ^ j) t ≡ bit w (j + t)
-unfolding bit
 bit_shifted w j t = ap (λ x. eqb (x % 2) 1) (shr-shr w j t)
 
 -- a bit, as one of what a shift by j leaves
@@ -54,7 +47,6 @@ bit_past w j i l = let e : j + (i - j) ≡ i = omega arith in ap (bit w) (sym e)
 
 -- the lowest bit that is set
 pub lowest_of : (w : ℕ) → w < 2 ^ 64 → 0 < w → LowestBit w 0 (count_trailing_zeros 64 w)
-unfolding bit
 lowest_of w l p =
     let t = bit_at-trailing_zeros w64 w p l in
     record { from = omega arith; within = t.0; here = ap (λ x. eqb x 1) t.1; before = λ i a b. ap (λ x. eqb x 1) (t.2 i b) }
@@ -73,7 +65,6 @@ lowest_from w j l p =
 
 -- a number is less without one of its bits
 pub less_turned : (w j : ℕ) → bit w j ≡ true → bit_xor w (2 ^ j) < w
-unfolding bit
 less_turned w j h =
     let e : bit_at w j ≡ 1 = eqb-true (bit_at w j) 1 h in
     let a : bit_and w (2 ^ j) ≡ 1 * 2 ^ j = and_pow w j ∙ ap (λ x. x * 2 ^ j) e in

@@ -15,7 +15,6 @@ pub record FirstMark (f : ℕ → ℕ) (p k : ℕ) : Type 0 where
 
 -- a number of the word w, and its bit
 mark_in : (f : ℕ → ℕ) (w i : ℕ) → w * 64 ≤ i → i < w * 64 + 64 → mark f i ≡ bit (f w) (i - w * 64)
-unfolding mark
 mark_in f w i l h =
     let d : i / 64 ≡ w = omega arith in
     let r : i % 64 ≡ i - w * 64 = omega arith in

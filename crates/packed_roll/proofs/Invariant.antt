@@ -71,7 +71,6 @@ pub record SavesKept (s : Parts) (f : ℕ → ℕ) (saves : List Save) : Type 0 
   pub counts : (i : ℕ) → (save_at saves i).count ≡ (save_at s.saves i).count
 
 noting_count : (s : Save) (w old : ℕ) → (noting s w old).count ≡ s.count
-unfolding noting
 noting_count s w old = cond_both (bit s.noted w) s _ (λ t. t.count ≡ s.count) (λ e. refl) (λ e. refl)
 
 -- the newest save L notes the word
@@ -101,7 +100,7 @@ kept_by s k L n l b =
 
 pub saves_kept : (s : Parts) (k : ℕ) → s.kept ≤ length s.saves → (0 < s.kept → k / 64 < length (save_at s.saves (s.kept - 1)).words)
     → SavesKept s (without s.words k) (saves_noting s.saves s.kept (k / 64) (s.words (k / 64)))
-unfolding saves_noting saves_of
+unfolding saves_of
 saves_kept s k l b = go s.kept refl
   where
     go : (K : ℕ) → s.kept ≡ K → SavesKept s (without s.words k) (saves_noting s.saves K (k / 64) (s.words (k / 64)))

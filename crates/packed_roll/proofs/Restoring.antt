@@ -15,12 +15,10 @@ pub record Restoring (save : Save) (xs ys : List ℕ) (left : ℕ) : Type 0 wher
   pub rest : (i : ℕ) → bit left i ≡ true → bit save.noted i ≡ true
 
 pub restoring_none : (save : Save) (xs : List ℕ) → Restoring save xs xs save.noted
-unfolding rewound
 restoring_none save xs = record { done = λ i h. sym (cond-false (bit save.noted i) _ _ h); rest = λ i h. h }
 
 pub restoring_more : (save : Save) (xs ys : List ℕ) (left t : ℕ) → length ys ≡ 64 → Restoring save xs ys left → LowestBit left 0 t
     → Restoring save xs (set ys t (get_or save.words t 0)) (bit_xor left (2 ^ t))
-unfolding rewound
 restoring_more save xs ys left t long r low =
     let v : ℕ = get_or save.words t 0 in
     let w : t < 64 = low.within in

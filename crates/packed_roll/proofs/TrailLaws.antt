@@ -47,14 +47,12 @@ module _ (saves : List Save) (K : ℕ) (s : Save) (f g : ℕ → ℕ) (l : K < l
 
 -- a new save has no word noted
 pub rewound_fresh : (s : Save) (f : ℕ → ℕ) → s.noted ≡ 0 → rewound s f ≡ f
-unfolding rewound
 rewound_fresh s f e = fun_ext (λ w. cond-false (bit s.noted w) _ _ (ap (λ x. bit x w) e ∙ bit-zero w))
 
 -- The word w is overwritten: f becomes f', which is f but at w.
 module _ (s : Save) (w : ℕ) (f f' : ℕ → ℕ) (same : (v : ℕ) → v ≢ w → f' v ≡ f v) where
   -- the save has it noted already
   rewound_noted : bit s.noted w ≡ true → rewound s f' ≡ rewound s f
-  unfolding rewound
   rewound_noted h = fun_ext (λ v. elim (cases_eq v w) [
     | inl e ↦ let b : bit s.noted v ≡ true = ap (bit s.noted) e ∙ h in cond-true (bit s.noted v) _ _ b ∙ sym (cond-true (bit s.noted v) _ _ b)
     | inr n ↦ ap (cond (bit s.noted v) (get_or s.words v 0)) (same v n)
@@ -63,7 +61,6 @@ module _ (s : Save) (w : ℕ) (f f' : ℕ → ℕ) (same : (v : ℕ) → v ≢ w
   -- the save notes it now
   rewound_notes : w < length s.words → bit s.noted w ≡ false
       → rewound (record { noted = bit_xor s.noted (2 ^ w); words = set s.words w (f w); count = s.count }) f' ≡ rewound s f
-  unfolding rewound
   rewound_notes l h = fun_ext (λ v.
       let D : ℕ = bit_xor s.noted (2 ^ w) in
       elim (cases_eq v w) [
@@ -79,16 +76,13 @@ module _ (s : Save) (w : ℕ) (f f' : ℕ → ℕ) (same : (v : ℕ) → v ≢ w
 
   -- either way the words at the save stay
   pub rewound_noting : w < length s.words → rewound (noting s w (f w)) f' ≡ rewound s f
-  unfolding noting
   rewound_noting l = cond_both (bit s.noted w) s _ (λ t. rewound t f' ≡ rewound s f) rewound_noted (rewound_notes l)
 
 -- what the newest of the saves kept notes, as the code writes it
 pub noting_newest : (saves : List Save) (kept w old : ℕ) → 0 < kept → set saves (kept - 1) (noting (save_at saves (kept - 1)) w old) ≡ saves_noting saves kept w old
-unfolding saves_noting
 noting_newest saves zero w old l = absurd (omega arith)
 noting_newest saves (suc L) w old l = let e : suc L - 1 ≡ L = omega arith in ap (λ K. set saves K (noting (save_at saves K) w old)) e
 
 pub noting_none : (saves : List Save) (kept w old : ℕ) → kept ≤ 0 → saves ≡ saves_noting saves kept w old
-unfolding saves_noting
 noting_none saves zero w old l = refl
 noting_none saves (suc L) w old l = absurd (omega arith)

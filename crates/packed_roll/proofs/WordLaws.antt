@@ -26,7 +26,6 @@ marks_at n f h k =
 -- All numbers below n stand.
 
 mark-full : (n k : ℕ) → mark (full n) k ≡ ltb k n
-unfolding mark full
 mark-full n k =
     elim (cases_lt k n) [
       | inl l ↦ bit_ones (min (n - k / 64 * 64) 64) (k % 64) (omega arith) ∙ sym (lt-ltb k n l)
@@ -45,15 +44,12 @@ count_full n = ap trues (marks_full n) ∙ trues_all n
 
 -- the words by which r numbers stand: as the code makes them, for all 64 and for fewer
 pub full_max : (n w r : ℕ) → r ≡ min (n - w * 64) 64 → r ≡ 64 → 2 ^ 64 - 1 ≡ full n w
-unfolding full
 full_max n w r e f = ap (λ x. 2 ^ x - 1) (sym f ∙ e)
 
 pub full_part : (n w r : ℕ) → r ≡ min (n - w * 64) 64 → r < 64 → 1 * 2 ^ r % 2 ^ 64 - 1 ≡ full n w
-unfolding full
 full_part n w r e l = ap (λ x. x - 1) (one_shl r 64 l) ∙ ap (λ x. 2 ^ x - 1) e
 
 pub filled : (n : ℕ) (ws : List ℕ) → n ≤ 4096 → length ws ≡ 64 → ((w : ℕ) → w < 64 → get_or ws w 0 ≡ full n w) → word_in ws ≡ full n
-unfolding full
 filled n ws l e h = fun_ext (λ w.
     elim (cases_lt w 64) [
       | inl b ↦ h w b
@@ -67,7 +63,6 @@ zeros (suc n) (suc w) = zeros n w
 
 -- words that are all 0
 pub clear_zeros : (n k : ℕ) → mark (word_in (replicate n 0)) k ≡ false
-unfolding mark
 clear_zeros n k = ap (λ x. bit x (k % 64)) (zeros n (k / 64)) ∙ bit-zero (k % 64)
 
 -- One number is taken out.
@@ -75,7 +70,6 @@ clear_zeros n k = ap (λ x. bit x (k % 64)) (zeros n (k / 64)) ∙ bit-zero (k %
 -- as the code turns its bit
 pub turned : (ws : List ℕ) (k : ℕ) → k / 64 < length ws
     → word_in (set ws (k / 64) (bit_xor (get_or ws (k / 64) 0) (1 * 2 ^ (k % 64) % 2 ^ 64))) ≡ without (word_in ws) k
-unfolding without
 turned ws k l = fun_ext (λ w.
     let x : ℕ = bit_xor (get_or ws (k / 64) 0) (1 * 2 ^ (k % 64) % 2 ^ 64) in
     elim (cases_eq w (k / 64)) [
@@ -88,19 +82,15 @@ turned ws k l = fun_ext (λ w.
     ])
 
 pub word_other : (f : ℕ → ℕ) (k w : ℕ) → w ≢ k / 64 → without f k w ≡ f w
-unfolding without
 word_other f k w n = cond-false (eqb w (k / 64)) _ _ (ne_eqb w (k / 64) n)
 
 word_same : (f : ℕ → ℕ) (k w : ℕ) → w ≡ k / 64 → without f k w ≡ bit_xor (f w) (2 ^ (k % 64))
-unfolding without
 word_same f k w e = cond-true (eqb w (k / 64)) _ _ (eq-eqb w (k / 64) e)
 
 mark-struck : (f : ℕ → ℕ) (k : ℕ) → mark f k ≡ true → mark (without f k) k ≡ false
-unfolding mark
 mark-struck f k h = ap (λ x. bit x (k % 64)) (word_same f k (k / 64) refl) ∙ bit_turned_same (f (k / 64)) (k % 64) ∙ ap not h
 
 mark_other : (f : ℕ → ℕ) (k i : ℕ) → i ≢ k → mark (without f k) i ≡ mark f i
-unfolding mark
 mark_other f k i n =
     elim (cases_eq (i / 64) (k / 64)) [
       | inl e ↦

@@ -9,7 +9,7 @@ abbrev pub save_at : List Save → ℕ → Save
 save_at saves L = slice_index_or saves L (record { noted = 0; words = []; count = 0 })
 
 -- the words at a save, by the words at the save after it or, for the newest save, now: a word that is noted is what it was
-unfoldable pub rewound : Save → (ℕ → ℕ) → ℕ → ℕ
+abbrev pub rewound : Save → (ℕ → ℕ) → ℕ → ℕ
 rewound save later w = if bit save.noted w then slice_index save.words w else later w
 
 -- the words at the save L of K saves kept, where f gives the words now
@@ -23,11 +23,11 @@ saves_of saves n f zero = []
 saves_of saves n f (suc K) = marks_of (rewound (save_at saves K) f) n ∷ saves_of saves n (rewound (save_at saves K) f) K
 
 -- before the word w, so far `old`, is overwritten: the save notes it, unless it has it noted
-unfoldable pub noting : Save → ℕ → ℕ → Save
+abbrev pub noting : Save → ℕ → ℕ → Save
 noting save w old =
     if bit save.noted w then save else record { noted = bit_xor save.noted (2 ^ w); words = slice_set save.words w old; count = save.count }
 
 -- the newest of K saves notes it
-unfoldable pub saves_noting : List Save → ℕ → ℕ → ℕ → List Save
+abbrev pub saves_noting : List Save → ℕ → ℕ → ℕ → List Save
 saves_noting saves zero w old = saves
 saves_noting saves (suc L) w old = slice_set saves L (noting (save_at saves L) w old)

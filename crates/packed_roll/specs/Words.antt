@@ -5,7 +5,7 @@ use Rattle.std.specs.List.{range_with_len}
 use Rattle.roll.specs.Meaning.{Marks, trues}
 
 -- whether bit j of the word w is set
-unfoldable pub bit : ℕ → ℕ → Bool
+abbrev pub bit : ℕ → ℕ → Bool
 bit w j = bit_at w j == 1
 
 -- bit t is the lowest bit of the word w, at or after bit j, that is set
@@ -21,7 +21,7 @@ LowestFrom w j None = (i : ℕ) → j ≤ i → bit w i ≡ false
 LowestFrom w j (Some t) = LowestBit w j t
 
 -- whether the number k stands, where f gives each word
-unfoldable pub mark : (ℕ → ℕ) → ℕ → Bool
+abbrev pub mark : (ℕ → ℕ) → ℕ → Bool
 mark f k = bit (f (k / 64)) (k % 64)
 
 -- the marks of the numbers below n
@@ -42,9 +42,9 @@ pub record Tallied (n count : ℕ) (f : ℕ → ℕ) : Type 0 where
   pub counted : trues (marks_of f n) ≡ count
 
 -- the word w where just the numbers below n stand
-unfoldable pub full : ℕ → ℕ → ℕ
+abbrev pub full : ℕ → ℕ → ℕ
 full n w = 2 ^ (min (n - w * 64) 64) - 1
 
 -- the words, where f gives each, with the bit of k turned
-unfoldable pub without : (ℕ → ℕ) → ℕ → ℕ → ℕ
+abbrev pub without : (ℕ → ℕ) → ℕ → ℕ → ℕ
 without f k w = if w == k / 64 then bit_xor (f w) (2 ^ (k % 64)) else f w

@@ -1,4 +1,4 @@
-use Rattle.std.proofs.Common.{refl, arith}
+use Rattle.std.proofs.Common.{◌+◌, refl, arith}
 use Rattle.packed_roll.specs.Packed.{meaning_of}
 use Rattle.packed_roll.specs.Words.{marks_of}
 use Rattle.packed_roll.specs.Trail.{saves_of}
@@ -10,7 +10,7 @@ unfolding marks_of
 invariant_of-result c = record {
   few = omega arith;
   few_saves = omega arith;
-  now = record { clear = λ k. clear_zeros 64 _; counted = refl };
+  now = record { clear = λ k. clear_zeros 64 (0 + k); counted = refl };
   at_saves = λ i z. absurd (omega arith);
 }
 
