@@ -11,7 +11,7 @@ use Rattle.packed_roll.specs.Trail.{rewound, save_at, words_at, saves_of, noting
 use Rattle.packed_roll.specs.declared.packed.PackedRoll.{PackedRoll}
 use Rattle.packed_roll.specs.declared.trail.Save.{Save}
 use Rattle.packed_roll.proofs.WordLaws.{clear_full, count_full, marks_full, word_other, marks_struck, clear_struck, count_struck}
-use Rattle.packed_roll.proofs.TrailLaws.{saves-set, words-set, rewound_fresh, rewound_noting}
+use Rattle.packed_roll.proofs.TrailLaws.{saves-set, words-set, rewound_fresh, rewound_noting, noting_count}
 
 -- the plain values of a packed roll
 pub record Parts : Type 0 where
@@ -40,7 +40,7 @@ means s = record { marks = marks_of s.words s.size; saves = saves_of s.saves s.s
 
 -- the same words and the same count
 tallied : (n c d : ℕ) (f g : ℕ → ℕ) → g ≡ f → d ≡ c → Tallied n c f → Tallied n d g
-tallied n c d f g e q h = record { clear = λ k. ap (λ x. mark x (n + k)) e ∙ h.clear k; counted = ap (λ x. trues (marks_of x n)) e ∙ h.counted ∙ sym q }
+tallied n c d f g e q h = rw (e, q) h
 
 -- Begin with n: f are the words in which the numbers below n stand.
 
@@ -70,9 +70,6 @@ pub record SavesKept (s : Parts) (f : ℕ → ℕ) (saves : List Save) : Type 0 
   pub words : (i : ℕ) → i < s.kept → words_at saves f s.kept i ≡ words_at s.saves s.words s.kept i
   pub counts : (i : ℕ) → (save_at saves i).count ≡ (save_at s.saves i).count
 
-noting_count : (s : Save) (w old : ℕ) → (noting s w old).count ≡ s.count
-noting_count s w old = cond_both (bit s.noted w) s _ (λ t. t.count ≡ s.count) (λ e. refl) (λ e. refl)
-
 -- the newest save L notes the word
 kept_by : (s : Parts) (k L : ℕ) → s.kept ≡ suc L → L < length s.saves → k / 64 < length (save_at s.saves L).words
     → SavesKept s (without s.words k) (set s.saves L (noting (save_at s.saves L) (k / 64) (s.words (k / 64))))
@@ -82,7 +79,7 @@ kept_by s k L n l b =
     let f : ℕ → ℕ = s.words in
     let g : ℕ → ℕ = rewound (save_at s.saves L) f in
     let newest : Save = noting (save_at s.saves L) w (f w) in
-    let e : rewound newest (without f k) ≡ g = rewound_noting (save_at s.saves L) w f (without f k) (word_other f k) b in
+    let e : rewound newest (without f k) ≡ g = rewound_noting (save_at s.saves L) w f (without f k) b (word_other f k) in
     record {
       marks = λ m.
           ap (saves_of (set s.saves L newest) m (without f k)) n ∙ saves-set s.saves L newest (without f k) g l e m
@@ -90,12 +87,7 @@ kept_by s k L n l b =
       words = λ i z.
           ap (λ K. words_at (set s.saves L newest) (without f k) K i) n ∙ words-set s.saves L newest (without f k) g l e i
           ∙ ap (λ K. words_at s.saves f K i) (sym n);
-      counts = λ i. elim (cases_eq i L) [
-        | inl d ↦
-            ap (λ J. (save_at (set s.saves L newest) J).count) d ∙ ap (λ t. t.count) (get_or-set_same s.saves L newest _ l)
-            ∙ noting_count (save_at s.saves L) w (f w) ∙ ap (λ J. (save_at s.saves J).count) (sym d)
-        | inr d ↦ ap (λ t. t.count) (get_or-set_other s.saves L i newest _ d)
-      ];
+      counts = λ i. noting_count s.saves L w (f w) i l;
     }
 
 pub saves_kept : (s : Parts) (k : ℕ) → s.kept ≤ length s.saves → (0 < s.kept → k / 64 < length (save_at s.saves (s.kept - 1)).words)

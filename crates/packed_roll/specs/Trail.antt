@@ -5,6 +5,7 @@ use Rattle.roll.specs.Meaning.{Marks}
 use Rattle.packed_roll.specs.Words.{bit, marks_of}
 use Rattle.packed_roll.specs.declared.trail.Save.{Save}
 
+-- the save with the number L
 abbrev pub save_at : List Save → ℕ → Save
 save_at saves L = slice_index_or saves L (record { noted = 0; words = []; count = 0 })
 
@@ -25,7 +26,7 @@ saves_of saves n f (suc K) = marks_of (rewound (save_at saves K) f) n ∷ saves_
 -- before the word w, so far `old`, is overwritten: the save notes it, unless it has it noted
 abbrev pub noting : Save → ℕ → ℕ → Save
 noting save w old =
-    if bit save.noted w then save else record { noted = bit_xor save.noted (2 ^ w); words = slice_set save.words w old; count = save.count }
+    if bit save.noted w then save else record save { noted = bit_xor save.noted (2 ^ w); words = slice_set save.words w old }
 
 -- the newest of K saves notes it
 abbrev pub saves_noting : List Save → ℕ → ℕ → ℕ → List Save

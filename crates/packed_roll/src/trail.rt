@@ -14,6 +14,7 @@ pub(crate) struct Save {
 
 impl Save {
     // Before the word w, so far `old`, is overwritten: keeps it, unless it was overwritten since the save already.
+    // That w is within the words the type says, but a caller that holds the save in an array is not told it.
     pub(crate) fn note(&mut self, w: u32, old: u64)
         requires { w < 64 }
         ensures noted { self.new ≡ noting self.old w old }
