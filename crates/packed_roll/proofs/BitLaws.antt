@@ -1,5 +1,5 @@
 -- The laws of bits.
-use Rattle.std.proofs.Common.{◌≡◌, ℕ, ◌+◌, ◌-◌, ◌*◌, ◌/◌, ◌%◌, ◌^◌, ◌<◌, ◌≤◌, ◌≢◌, true, false, not, arith, shr-shr, pow_pos}
+use Rattle.std.proofs.Common.{◌≡◌, ℕ, ◌+◌, ◌-◌, ◌/◌, ◌^◌, ◌<◌, ◌≤◌, ◌≢◌, true, false, not, arith, shr-shr, pow_pos}
 use lib.Bits.{bit_xor, xor_add_and}
 use lib.Count.{count_trailing_zeros}
 use Rattle.std.specs.Int.{w64}

@@ -1,12 +1,12 @@
 -- The invariant of a packed roll and its meaning, over its plain values, and how each call keeps the one and alters the other.
-use Rattle.std.proofs.Common.{◌≡◌, ℕ, zero, suc, ◌+◌, ◌-◌, ◌/◌, ◌<◌, ◌≤◌, true, List, [], length, set, Ok, Err, sym, refl, ap, ◌∙◌, subst, inl, inr, arith}
-use Rattle.std.proofs.lemmas.List.{get_or-set_same, get_or-set_other}
-use Rattle.std.proofs.lemmas.Bool.{cases_eq, eq-eqb, ne_eqb, cond-true, cond-false, cond_both}
+use Rattle.std.proofs.Common.{◌≡◌, ℕ, zero, suc, ◌+◌, ◌-◌, ◌/◌, ◌<◌, ◌≤◌, true, List, [], length, set, Ok, Err, sym, refl, ap, ◌∙◌, inl, inr, arith}
+use Rattle.std.proofs.lemmas.Grind.{common_steps}
+use Rattle.std.proofs.lemmas.Bool.{cases_eq, eq-eqb, ne_eqb, cond-true, cond-false}
 use Rattle.refusal.specs.declared.reason.Refusal.TheVariants.{NoSaveFree, NoSaveKept}
 use Rattle.roll.specs.Meaning.{Meaning, trues, begun, saved, struck}
 use Rattle.roll.specs.Calls.{begin_answer, after_begin, save_answer, after_save, back_answer, after_back}
 use Rattle.roll.proofs.Calls.{Done, begin_done, save_declined, save_done, back_declined, back_done}
-use Rattle.packed_roll.specs.Words.{bit, mark, marks_of, word_in, full, without, Tallied}
+use Rattle.packed_roll.specs.Words.{mark, marks_of, word_in, full, without, Tallied}
 use Rattle.packed_roll.specs.Trail.{rewound, save_at, words_at, saves_of, noting, saves_noting}
 use Rattle.packed_roll.specs.declared.packed.PackedRoll.{PackedRoll}
 use Rattle.packed_roll.specs.declared.trail.Save.{Save}
@@ -51,7 +51,7 @@ pub holds_begin : (s : Parts) (f : ℕ → ℕ) (n : ℕ) → n ≤ 4096 → f �
 holds_begin s f n l e = record {
   few = l;
   few_saves = omega arith;
-  now = tallied n n n (full n) f e refl (record { clear = clear_full n; counted = count_full n });
+  now = rw e (record { clear = clear_full n; counted = count_full n });
   at_saves = λ i z. absurd (omega arith);
 }
 
@@ -81,12 +81,8 @@ kept_by s k L n l b =
     let newest : Save = noting (save_at s.saves L) w (f w) in
     let e : rewound newest (without f k) ≡ g = rewound_noting (save_at s.saves L) w f (without f k) b (word_other f k) in
     record {
-      marks = λ m.
-          ap (saves_of (set s.saves L newest) m (without f k)) n ∙ saves-set s.saves L newest (without f k) g l e m
-          ∙ ap (saves_of s.saves m f) (sym n);
-      words = λ i z.
-          ap (λ K. words_at (set s.saves L newest) (without f k) K i) n ∙ words-set s.saves L newest (without f k) g l e i
-          ∙ ap (λ K. words_at s.saves f K i) (sym n);
+      marks = λ m. rw n (saves-set s.saves L newest (without f k) g l e m);
+      words = λ i z. rw n (words-set s.saves L newest (without f k) g l e i);
       counts = λ i. noting_count s.saves L w (f w) i l;
     }
 
@@ -96,15 +92,10 @@ unfolding saves_of
 saves_kept s k l b = go s.kept refl
   where
     go : (K : ℕ) → s.kept ≡ K → SavesKept s (without s.words k) (saves_noting s.saves K (k / 64) (s.words (k / 64)))
-    go zero e = record {
-      marks = λ n. ap (saves_of s.saves n (without s.words k)) e ∙ ap (saves_of s.saves n s.words) (sym e);
-      words = λ i z. absurd (omega arith);
-      counts = λ i. refl;
-    }
+    go zero e = record { marks = λ n. rw e refl; words = λ i z. absurd (omega arith); counts = λ i. refl }
     go (suc L) e =
         let d : s.kept - 1 ≡ L = omega arith in
-        let P : ℕ → Type 0 = λ J. k / 64 < length (save_at s.saves J).words in
-        kept_by s k L e (omega arith) (subst P d (b (omega arith)))
+        kept_by s k L e (omega arith) (rw d at (b (omega arith)))
 
 abbrev pub struck_parts : Parts → (ℕ → ℕ) → List Save → Parts
 struck_parts s f saves = record { words = f; saves = saves; size = s.size; count = s.count - 1; kept = s.kept }
@@ -112,13 +103,13 @@ struck_parts s f saves = record { words = f; saves = saves; size = s.size; count
 module _ (s : Parts) (k : ℕ) (f : ℕ → ℕ) (v : Holds s) (h : mark s.words k ≡ true) (e : f ≡ without s.words k) where
   -- there is one to count less
   pub count_less : suc (trues (marks_of f s.size)) ≡ s.count
-  count_less = ap (λ g. suc (trues (marks_of g s.size))) e ∙ count_struck s.words k s.size h v.now.clear ∙ v.now.counted
+  count_less = rw e (count_struck s.words k s.size h v.now.clear ∙ v.now.counted)
 
   pub holds_strike : (saves : List Save) → SavesKept s f saves → Holds (struck_parts s f saves)
   holds_strike saves t = record {
     few = v.few;
     few_saves = v.few_saves;
-    now = record { clear = λ j. ap (λ g. mark g (s.size + j)) e ∙ clear_struck s.words k s.size h v.now.clear j; counted = let n = count_less in omega arith };
+    now = record { clear = rw e (clear_struck s.words k s.size h v.now.clear); counted = let n = count_less in omega arith };
     at_saves = λ i l. tallied s.size _ _ _ _ (t.words i l) (t.counts i) (v.at_saves i l);
   }
 
@@ -145,12 +136,8 @@ module _ (s : Parts) (new : Save) (v : Holds s) (l : s.kept < 32) (b : s.kept < 
         few_saves = omega arith;
         now = v.now;
         at_saves = λ i h. elim (cases_eq i s.kept) [
-          | inl d ↦
-              tallied s.size _ _ _ _ (at i ∙ cond-true _ _ _ (eq-eqb i s.kept d))
-              (ap (λ J. (save_at (set s.saves s.kept new) J).count) d ∙ ap (λ t. t.count) (get_or-set_same s.saves s.kept new _ b) ∙ c) v.now
-          | inr d ↦
-              tallied s.size _ _ _ _ (at i ∙ cond-false _ _ _ (ne_eqb i s.kept d)) (ap (λ t. t.count) (get_or-set_other s.saves s.kept i new _ d))
-              (v.at_saves i (omega arith))
+          | inl d ↦ tallied s.size _ _ _ _ (grind (arith, at i)) (grind (arith, common_steps)) v.now
+          | inr d ↦ tallied s.size _ _ _ _ (grind (arith, at i)) (grind (arith, common_steps)) (v.at_saves i (omega arith))
         ];
       }
 
@@ -169,19 +156,17 @@ back_parts s f saves K = record { words = f; saves = saves; size = s.size; count
 
 pub back_none : (s : Parts) → s.kept ≡ 0 → Done (Err NoSaveKept) (back_answer (means s)) (means s) (after_back (means s))
 unfolding saves_of
-back_none s e = back_declined (means s) (ap (saves_of s.saves s.size s.words) e)
+back_none s e = back_declined (means s) (rw e refl)
 
 module _ (s : Parts) (f : ℕ → ℕ) (saves : List Save) (K : ℕ) (v : Holds s) (n : s.kept ≡ suc K) (e : f ≡ rewound (save_at s.saves K) s.words)
     (q : saves ≡ s.saves) where
   newest_at : f ≡ words_at s.saves s.words s.kept K
   unfolding words_at
-  newest_at = e ∙ sym (ap (λ x. words_at s.saves s.words x K) n ∙ cond-true _ _ _ (eq-eqb K K refl))
+  newest_at = rw (n, e) (sym (cond-true _ _ _ (eq-eqb K K refl)))
 
   older_at : (i : ℕ) → i < K → words_at saves f K i ≡ words_at s.saves s.words s.kept i
   unfolding words_at
-  older_at i b =
-      ap (λ ss. words_at ss f K i) q ∙ ap (λ g. words_at s.saves g K i) e
-      ∙ sym (ap (λ x. words_at s.saves s.words x i) n ∙ cond-false _ _ _ (ne_eqb i K (λ d. omega arith)))
+  older_at i b = rw (n, q, e) (sym (cond-false _ _ _ (ne_eqb i K (λ d. omega arith))))
 
   pub holds_back : Holds (back_parts s f saves K)
   holds_back = record {
@@ -195,7 +180,7 @@ module _ (s : Parts) (f : ℕ → ℕ) (saves : List Save) (K : ℕ) (v : Holds 
   unfolding saves_of
   back_is =
       let g : ℕ → ℕ = rewound (save_at s.saves K) s.words in
-      let d = back_done (means s) (marks_of g s.size) (saves_of s.saves s.size g K) (ap (saves_of s.saves s.size s.words) n) in
+      let d = back_done (means s) (marks_of g s.size) (saves_of s.saves s.size g K) (rw n refl) in
       let l : 32 - K ≡ 32 - s.kept + 1 = let h = v.few_saves in omega arith in
       record {
         answer = d.answer;

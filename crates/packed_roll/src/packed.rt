@@ -19,8 +19,6 @@ pub struct PackedRoll {
     ghost few: { size ≤ 4096 },
     ghost few_saves: { kept ≤ 32 },
     ghost now: { Tallied size count (word_in words.bits) },
-    ghost at_saves: {
-        ((i : ℕ) → i < kept
-            → Tallied size (save_at trail.saves i).count (words_at trail.saves (word_in words.bits) kept i))
-    },
+    ghost at_saves: { ((i : ℕ) → i < kept
+        → Tallied size (save_at trail.saves i).count (words_at trail.saves (word_in words.bits) kept i)) },
 }

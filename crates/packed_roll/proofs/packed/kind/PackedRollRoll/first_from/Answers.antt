@@ -1,9 +1,9 @@
-use Rattle.std.proofs.Common.{◌≡◌, ℕ, ◌+◌, ◌*◌, ◌≤◌, Some, None, sym, ◌∙◌, inl, inr, subst, arith}
+use Rattle.std.proofs.Common.{◌≡◌, ℕ, ◌*◌, ◌≤◌, Some, None, sym, ◌∙◌, inl, inr, arith}
 use Rattle.std.proofs.lemmas.Bool.{cases_lt}
 use Rattle.roll.specs.Meaning.{stands_at, first_at}
 use Rattle.roll.proofs.First.{lowest_is, none_is}
 use Rattle.packed_roll.specs.Packed.{meaning_of}
-use Rattle.packed_roll.specs.Words.{mark, word_in, LowestBit}
+use Rattle.packed_roll.specs.Words.{mark, word_in}
 use Rattle.packed_roll.specs.declared.packed.PackedRoll.{PackedRoll}
 use Rattle.packed_roll.proofs.WordLaws.{marks_at, clear_at}
 use Rattle.packed_roll.proofs.FirstLaws.{NoneBetween, FirstMark, found, passed}
@@ -28,16 +28,12 @@ loop-w-init c i l b = absurd (omega arith)
 
 pub loop-w-preserved : goal.loop-w-preserved
 loop-w-preserved c =
-    let none = passed (word_in c.args.self.now.words.bits) c.args.place c.loop-w.w c.loop-w.invariant in
-    none (λ i l. c.in_default.ensures i (omega arith))
+    passed (word_in c.args.self.now.words.bits) c.args.place c.loop-w.w c.loop-w.invariant (λ i l. c.in_default.ensures i (omega arith))
 
 pub returns-in-Some : goal.returns-in-Some
 returns-in-Some c =
-    let p = c.args.self.now in
-    let f : ℕ → ℕ = word_in p.words.bits in
-    let w : ℕ = c.loop-w.w in
-    let P : ℕ → Type 0 = λ j. LowestBit (f w) j c.in-Some.j in
-    first p c.args.place (w * 64 + c.in-Some.j) (found f c.args.place w c.in-Some.j c.loop-w.invariant (subst P c.saturating_sub-from.ensures c.in-Some.ensures))
+    let low = rw c.saturating_sub-from.ensures at c.in-Some.ensures in
+    first c.args.self.now c.args.place _ (found (word_in c.args.self.now.words.bits) c.args.place c.loop-w.w c.in-Some.j c.loop-w.invariant low)
 
 pub returns : goal.returns
 returns c =

@@ -1,4 +1,4 @@
-use Rattle.std.proofs.Common.{◌≡◌, ℕ, ◌-◌, ◌/◌, ◌<◌, ◌≤◌, true, List, length, sym, ◌∙◌, subst, arith}
+use Rattle.std.proofs.Common.{◌≡◌, ℕ, ◌-◌, ◌/◌, ◌<◌, ◌≤◌, true, List, length, sym, ◌∙◌, arith}
 use Rattle.roll.specs.Meaning.{stands_at}
 use Rattle.roll.proofs.Counting.{struck_out}
 use Rattle.roll.proofs.First.{stands_below}
@@ -8,7 +8,7 @@ use Rattle.packed_roll.specs.Trail.{save_at, saves_noting}
 use Rattle.packed_roll.specs.declared.trail.Save.{Save}
 use Rattle.packed_roll.specs.declared.packed.PackedRoll.{PackedRoll}
 use Rattle.packed_roll.proofs.WordLaws.{marks_at}
-use Rattle.packed_roll.proofs.Invariant.{SavesKept, saves_kept, Parts, parts_of, held_by, count_less, holds_strike, strike_is}
+use Rattle.packed_roll.proofs.Invariant.{SavesKept, saves_kept, parts_of, held_by, count_less, holds_strike, strike_is}
 use Rattle.packed_roll.specs.Soundness.{length_marks}
 use Rattle.packed_roll.proofs.packed.kind.PackedRollRoll.strike.Goals as goal
 
@@ -47,9 +47,7 @@ record Written (p : PackedRoll) (k : ℕ) (f : ℕ → ℕ) (saves : List Save) 
   places : p.kept ≤ length p.trail.saves
 
 kept : (p : PackedRoll) (k : ℕ) (f : ℕ → ℕ) (saves : List Save) → Written p k f saves → SavesKept (parts_of p) f saves
-kept p k f saves r =
-    let s : Parts = parts_of p in
-    subst (λ g. SavesKept s g saves) (sym r.words) (subst (SavesKept s (without s.words k)) (sym r.noted) (saves_kept s k r.places r.within))
+kept p k f saves r = rw (r.words, r.noted) (saves_kept (parts_of p) k r.places r.within)
 
 pub overflow_sub-self : goal.overflow_sub-self
 overflow_sub-self c =
