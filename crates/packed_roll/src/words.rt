@@ -43,7 +43,8 @@ impl Words {
         }
     }
 
-    // Puts back the words that the save noted, in as many turns as it noted words.
+    // Puts back the words that the save noted. It goes by the bits of `noted`, since a loop over the words would take
+    // 64 turns to put back one.
     pub(crate) fn restore(&mut self, save: &Save)
         ensures { word_in self.new.bits ≡ rewound save.now (word_in self.old.bits) }
     {
