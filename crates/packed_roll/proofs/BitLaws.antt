@@ -1,81 +1,50 @@
 -- The laws of bits.
-use Rattle.std.specs.Prelude.{◌≡◌, ℕ, ◌+◌, ◌-◌, ◌*◌, ◌/◌, ◌%◌, ◌^◌, ◌<◌, ◌≤◌, Bool, true, false, not, ◌≢◌, ◌==◌, bit_xor, nat_eq}
-use Rattle.std.proofs.Common.{sym, ap, ◌∙◌, inl, inr, arith, pow_pos, pow-add, pow_mono, shr-shr}
-use Rattle.std.proofs.Math.Nat.{div-eq_of_lt, div_self}
-use Rattle.std.proofs.lemmas.Nat.{xor_shr, xor_mod, shl-shr}
-use Rattle.std.specs.Int.Bits.{xor_zero_r}
-use Rattle.std.proofs.Math.Pow.{pow-lt, ones_lt, ones_split, high}
-use Rattle.std.proofs.lemmas.Bool.{cases_lt, eqb-true, eqb-false}
-use Rattle.packed_roll.specs.Words.{bit}
+use Rattle.std.proofs.Common.{◌≡◌, ℕ, ◌+◌, ◌-◌, ◌/◌, ◌^◌, ◌<◌, ◌≤◌, ◌≢◌, true, false, not, arith, shr-shr, pow_pos}
+use lib.Bits.{bit_xor, xor_add_and}
+use lib.Count.{count_trailing_zeros}
+use Rattle.std.specs.Int.{w64}
+use Rattle.std.proofs.lemmas.Nat.Bits.{bit_at-lt, bit_at-zero, bit_at_xor, bit_at-pow_same, bit_at-pow_other, bit_at_ones, bit_at_ones_above, bit_at_above, bit_at-trailing_zeros, and_pow}
+use Rattle.packed_roll.specs.Words.{bit, LowestBit}
 
-twice_even : (x : ℕ) → x * 2 % 2 ≡ 0
-twice_even x = omega arith
+-- a bit is turned
+pub bit_turned_same : (w j : ℕ) → bit (bit_xor w (2 ^ j)) j ≡ not (bit w j)
+bit_turned_same w j = grind (arith, bit_at_xor, bit_at-pow_same, bit_at-lt)
 
-pow_even : (i j : ℕ) → i < j → 2 ^ j / 2 ^ i % 2 ≡ 0
-pow_even i j l =
-    let d : ℕ = j - i - 1 in
-    let e : j ≡ (d + 1) + i = omega arith in
-    let f : 2 ^ j / 2 ^ i ≡ 2 ^ (d + 1) = ap (λ n. 2 ^ n / 2 ^ i) e ∙ ap (λ n. n / 2 ^ i) (pow-add 2 (d + 1) i) ∙ shl-shr (2 ^ (d + 1)) i in
-    ap (λ n. n % 2) (f ∙ pow-add 2 d 1) ∙ twice_even (2 ^ d)
-
-pow_small : (i j : ℕ) → j < i → 2 ^ j / 2 ^ i % 2 ≡ 0
-pow_small i j l = ap (λ n. n % 2) (div-eq_of_lt (pow-lt l))
-
-pow_other : (i j : ℕ) → i ≢ j → 2 ^ j / 2 ^ i % 2 ≡ 0
-pow_other i j n = elim (cases_lt i j) [ inl l ↦ pow_even i j l | inr l ↦ pow_small i j (omega arith) ]
-
-xor_bit : (w b i : ℕ) → bit_xor w b / 2 ^ i % 2 ≡ bit_xor (w / 2 ^ i % 2) (b / 2 ^ i % 2)
-xor_bit w b i = ap (λ n. n % 2) (xor_shr w b i) ∙ xor_mod (w / 2 ^ i) (b / 2 ^ i) 1
-
--- a bit is turned: the others stay
 pub bit_turned_other : (w i j : ℕ) → i ≢ j → bit (bit_xor w (2 ^ j)) i ≡ bit w i
-unfolding bit
-bit_turned_other w i j n = ap (λ x. nat_eq x 1) (xor_bit w (2 ^ j) i ∙ ap (bit_xor (w / 2 ^ i % 2)) (pow_other i j n) ∙ xor_zero_r (w / 2 ^ i % 2))
+bit_turned_other w i j n = grind (arith, bit_at_xor, bit_at-pow_other, bit_at-lt)
 
-odd_or_even : (x : ℕ) → (x % 2 == 1) ≡ false → x % 2 ≡ 0
-odd_or_even x h = let n = eqb-false (x % 2) 1 h in omega (arith, n)
-
-turned : (w j x : ℕ) → w / 2 ^ j % 2 ≡ x → bit_xor w (2 ^ j) / 2 ^ j % 2 ≡ bit_xor x 1
-turned w j x e =
-    let p : 2 ^ j / 2 ^ j % 2 ≡ 1 = ap (λ n. n % 2) (div_self (pow_pos j)) in
-    xor_bit w (2 ^ j) j ∙ ap (λ n. bit_xor n (2 ^ j / 2 ^ j % 2)) e ∙ ap (bit_xor x) p
-
-pub bit_turned_same : (w j : ℕ) (b : Bool) → bit w j ≡ b → bit (bit_xor w (2 ^ j)) j ≡ not b
-unfolding bit
-bit_turned_same w j true h = ap (λ x. nat_eq x 1) (turned w j 1 (eqb-true (w / 2 ^ j % 2) 1 h))
-bit_turned_same w j false h = ap (λ x. nat_eq x 1) (turned w j 0 (odd_or_even (w / 2 ^ j) h))
-
-less_odd : (x : ℕ) → 0 < x → (x * 2 - 1) % 2 ≡ 1
-less_odd x l = omega arith
+-- a number is less without one of its bits
+pub less_turned : (w j : ℕ) → bit w j ≡ true → bit_xor w (2 ^ j) < w
+less_turned w j h = grind (arith, xor_add_and w (2 ^ j), pow_pos j, and_pow w j)
 
 pub bit_ones : (r j : ℕ) → j < r → bit (2 ^ r - 1) j ≡ true
-unfolding bit
-bit_ones r j l =
-    let d : ℕ = r - j - 1 in
-    let e : r ≡ (d + 1) + j = omega arith in
-    let f : (2 ^ r - 1) / 2 ^ j ≡ 2 ^ (d + 1) - 1
-    = ap (λ n. (2 ^ n - 1) / 2 ^ j) e ∙ ap (λ n. n / 2 ^ j) (ones_split (d + 1) j) ∙ high (2 ^ (d + 1) - 1) j (ones_lt j) in
-    let o : (2 ^ r - 1) / 2 ^ j % 2 ≡ 1 = ap (λ n. n % 2) (f ∙ ap (λ n. n - 1) (pow-add 2 d 1)) ∙ less_odd (2 ^ d) (pow_pos d) in
-    ap (λ x. nat_eq x 1) o
+bit_ones r j l = grind (arith, bit_at_ones r j)
 
 pub bit_ones_past : (r j : ℕ) → r ≤ j → bit (2 ^ r - 1) j ≡ false
-unfolding bit
-bit_ones_past r j l =
-    let b : 2 ^ r - 1 < 2 ^ j = let x = pow_mono l in let y = pow_pos r in omega arith in
-    ap (λ x. nat_eq (x % 2) 1) (div-eq_of_lt b)
+bit_ones_past r j l = grind (arith, bit_at_ones_above r j)
 
 pub bit-zero : (j : ℕ) → bit 0 j ≡ false
-unfolding bit
-bit-zero j = ap (λ x. nat_eq (x % 2) 1) (div-eq_of_lt (pow_pos j))
+bit-zero j = grind (arith, bit_at-zero j)
 
-pub bit_past : (w j i : ℕ) → w / 2 ^ j ≡ 0 → j ≤ i → bit w i ≡ false
-unfolding bit
-bit_past w j i z l =
-    let e : j + (i - j) ≡ i = omega arith in
-    let d : w / 2 ^ i ≡ 0
-    = ap (λ x. w / 2 ^ x) (sym e) ∙ sym (shr-shr w j (i - j)) ∙ ap (λ x. x / 2 ^ (i - j)) z ∙ div-eq_of_lt (pow_pos (i - j)) in
-    ap (λ x. nat_eq (x % 2) 1) d
+-- a bit, as one of what a shift by j leaves
+pub bit_past : (w j i : ℕ) → j ≤ i → bit w i ≡ bit (w / 2 ^ j) (i - j)
+bit_past w j i l = grind (arith, shr-shr w j (i - j))
 
-pub bit_shifted : (w j t : ℕ) → bit (w / 2 ^ j) t ≡ bit w (j + t)
-unfolding bit
-bit_shifted w j t = ap (λ x. nat_eq (x % 2) 1) (shr-shr w j t)
+-- the lowest bit that is set
+pub lowest_of : (w : ℕ) → w < 2 ^ 64 → 0 < w → LowestBit w 0 (count_trailing_zeros 64 w)
+lowest_of w l p =
+    let t = bit_at-trailing_zeros w64 w p l in
+    record { from = omega arith; within = t.0; here = grind (arith, t.1); before = λ i a b. grind (arith, t.2 i) }
+
+-- the lowest bit from bit j on, of what a shift by j leaves
+pub lowest_from : (w j : ℕ) → w < 2 ^ 64 → 0 < w / 2 ^ j → LowestBit w j (j + count_trailing_zeros 64 (w / 2 ^ j))
+lowest_from w j l p =
+    let t : ℕ = count_trailing_zeros 64 (w / 2 ^ j) in
+    let low : LowestBit (w / 2 ^ j) 0 t = lowest_of (w / 2 ^ j) (omega arith) p in
+    let h : bit w (j + t) ≡ true = grind (arith, bit_past w j (j + t), low.here) in
+    record {
+      from = omega arith;
+      within = grind (arith, bit_at_above w 64 (j + t), h);
+      here = h;
+      before = λ i a b. grind (arith, bit_past w j i, low.before (i - j));
+    }

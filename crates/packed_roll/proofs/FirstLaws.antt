@@ -1,5 +1,5 @@
 -- The first number that stands, found by words.
-use Rattle.std.proofs.Common.{◌≡◌, ℕ, ◌+◌, ◌-◌, ◌*◌, ◌/◌, ◌%◌, ◌<◌, ◌≤◌, true, false, ap, ◌∙◌, inl, inr, arith}
+use Rattle.std.proofs.Common.{◌≡◌, ℕ, ◌+◌, ◌-◌, ◌*◌, ◌/◌, ◌%◌, ◌<◌, ◌≤◌, true, false, arith}
 use Rattle.std.proofs.lemmas.Bool.{cases_lt}
 use Rattle.packed_roll.specs.Words.{bit, mark, LowestBit}
 
@@ -13,33 +13,24 @@ pub record FirstMark (f : ℕ → ℕ) (p k : ℕ) : Type 0 where
   pub here : mark f k ≡ true
   pub before : NoneBetween f p k
 
--- a bit of the word w, and the number it is of
+-- a number of the word w, and its bit
 mark_in : (f : ℕ → ℕ) (w i : ℕ) → w * 64 ≤ i → i < w * 64 + 64 → mark f i ≡ bit (f w) (i - w * 64)
-unfolding mark
 mark_in f w i l h =
     let d : i / 64 ≡ w = omega arith in
     let r : i % 64 ≡ i - w * 64 = omega arith in
-    ap (λ x. bit (f x) (i % 64)) d ∙ ap (bit (f w)) r
+    cc
 
--- all up to bit j of the word w are passed, and the next that stands is bit t
-pub found : (f : ℕ → ℕ) (p w j t : ℕ) → p ≤ w * 64 + j → NoneBetween f p (w * 64 + j) → LowestBit (f w) j t → FirstMark f p (w * 64 + t)
-found f p w j t l none low =
-    let a : j ≤ t = low.from in
-    let b : t < 64 = low.within in
-    let e : w * 64 + t - w * 64 ≡ t = omega arith in
+-- all before the word w are passed, and the next that stands is its bit t
+pub found : (f : ℕ → ℕ) (p w t : ℕ) → NoneBetween f p (w * 64) → LowestBit (f w) (p - w * 64) t → FirstMark f p (w * 64 + t)
+found f p w t none low =
+    let a = low.from in
+    let b = low.within in
     record {
       from = omega arith;
-      here = mark_in f w (w * 64 + t) (omega arith) (omega arith) ∙ ap (bit (f w)) e ∙ low.here;
-      before = λ i q h. elim (cases_lt i (w * 64 + j)) [
-        | inl c ↦ none i q c
-        | inr c ↦ mark_in f w i (omega arith) (omega arith) ∙ low.before (i - w * 64) (omega arith) (omega arith)
-      ];
+      here = grind (arith, mark_in f w (w * 64 + t), low.here);
+      before = λ i q h. grind (arith, cases_lt i (w * 64), none i q, mark_in f w i, low.before (i - w * 64));
     }
 
--- no bit of the word w stands from bit j on
-pub passed : (f : ℕ → ℕ) (p w j : ℕ) → NoneBetween f p (w * 64 + j) → ((i : ℕ) → j ≤ i → bit (f w) i ≡ false) → NoneBetween f p ((w + 1) * 64)
-passed f p w j none clear i q h =
-    elim (cases_lt i (w * 64 + j)) [
-      | inl c ↦ none i q c
-      | inr c ↦ mark_in f w i (omega arith) (omega arith) ∙ clear (i - w * 64) (omega arith)
-    ]
+-- no bit of the word w stands from the place p on
+pub passed : (f : ℕ → ℕ) (p w : ℕ) → NoneBetween f p (w * 64) → ((i : ℕ) → p - w * 64 ≤ i → bit (f w) i ≡ false) → NoneBetween f p ((w + 1) * 64)
+passed f p w none clear i q h = grind (arith, cases_lt i (w * 64), none i q, mark_in f w i, clear (i - w * 64))

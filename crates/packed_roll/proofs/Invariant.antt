@@ -1,201 +1,188 @@
 -- The invariant of a packed roll and its meaning, over its plain values, and how each call keeps the one and alters the other.
-use Rattle.std.specs.Prelude.{◌≡◌, ℕ, suc, ◌+◌, ◌-◌, ◌/◌, ◌<◌, ◌≤◌, true, cond, ◌≢◌, List, length, Ok, Err, slice_index, slice_set, refl}
-use Rattle.std.proofs.Common.{sym, ap, ◌∙◌, inl, inr, arith}
-use Rattle.std.proofs.lemmas.List.{get_or-set_same, get_or-set_other, length-set}
-use Rattle.std.proofs.lemmas.Bool.{cases_eq, eq-eqb, ne_eqb}
+use Rattle.std.proofs.Common.{◌≡◌, ℕ, zero, suc, ◌+◌, ◌-◌, ◌/◌, ◌<◌, ◌≤◌, true, List, [], length, set, Ok, Err, sym, refl, ap, ◌∙◌, inl, inr, arith}
+use Rattle.std.proofs.lemmas.Grind.{common_steps}
+use Rattle.std.proofs.lemmas.Bool.{cases_eq, eq-eqb, ne_eqb, cond-true, cond-false}
 use Rattle.refusal.specs.declared.reason.Refusal.TheVariants.{NoSaveFree, NoSaveKept}
 use Rattle.roll.specs.Meaning.{Meaning, trues, begun, saved, struck}
 use Rattle.roll.specs.Calls.{begin_answer, after_begin, save_answer, after_save, back_answer, after_back}
 use Rattle.roll.proofs.Calls.{Done, begin_done, save_declined, save_done, back_declined, back_done}
-use Rattle.packed_roll.specs.Words.{mark, marks_of, word_in, Clear, without}
-use Rattle.packed_roll.specs.Trail.{rewound, words_at, saves_of}
+use Rattle.packed_roll.specs.Words.{mark, marks_of, word_in, full, without, Tallied}
+use Rattle.packed_roll.specs.Trail.{rewound, save_at, words_at, saves_of, noting, saves_noting}
 use Rattle.packed_roll.specs.declared.packed.PackedRoll.{PackedRoll}
-use Rattle.packed_roll.proofs.WordLaws.{Full, length_without, marks_struck, clear_struck, count_struck}
-use Rattle.packed_roll.proofs.TrailLaws.{SavesKept, no_saves, saves_newest, saves_saved, at-saved, at_older, at_newest}
+use Rattle.packed_roll.specs.declared.trail.Save.{Save}
+use Rattle.packed_roll.proofs.WordLaws.{clear_full, count_full, marks_full, word_other, marks_struck, clear_struck, count_struck}
+use Rattle.packed_roll.proofs.TrailLaws.{saves-set, words-set, rewound_fresh, rewound_noting, noting_count}
 
 -- the plain values of a packed roll
 pub record Parts : Type 0 where
-  pub ws : List ℕ
-  pub olds : List ℕ
-  pub noted : List ℕ
-  pub counts : List ℕ
+  pub words : ℕ → ℕ
+  pub saves : List Save
   pub size : ℕ
   pub count : ℕ
   pub kept : ℕ
 
 abbrev pub parts_of : PackedRoll → Parts
-parts_of p = record
-    { ws = p.words.bits; olds = p.trail.olds; noted = p.trail.noted; counts = p.trail.counts; size = p.size; count = p.count; kept = p.kept }
-
-abbrev pub with_kept : Parts → ℕ → Parts
-with_kept s n = record { ws = s.ws; olds = s.olds; noted = s.noted; counts = s.counts; size = s.size; count = s.count; kept = n }
+parts_of p = record { words = word_in p.words.bits; saves = p.trail.saves; size = p.size; count = p.count; kept = p.kept }
 
 -- what the ghost fields say
 pub record Holds (s : Parts) : Type 0 where
-  pub long : (length s.ws ≡ 64) × ((length s.olds ≡ 2048) × ((length s.noted ≡ 32) × (length s.counts ≡ 32)))
-  pub few : (s.size ≤ 4096) × (s.kept ≤ 32)
-  pub clear : Clear s.size (word_in s.ws)
-  pub counted : trues (marks_of (word_in s.ws) s.size) ≡ s.count
-  pub saves_clear : (i : ℕ) → i < s.kept → Clear s.size (words_at s.olds s.noted (word_in s.ws) s.kept i)
-  pub saves_counted : (i : ℕ) → i < s.kept
-      → trues (marks_of (words_at s.olds s.noted (word_in s.ws) s.kept i) s.size) ≡ slice_index s.counts i
+  pub few : s.size ≤ 4096
+  pub few_saves : s.kept ≤ 32
+  pub now : Tallied s.size s.count s.words
+  pub at_saves : (i : ℕ) → i < s.kept → Tallied s.size (save_at s.saves i).count (words_at s.saves s.words s.kept i)
 
 pub held_by : (p : PackedRoll) → Holds (parts_of p)
-held_by p = record
-    { long = p.long; few = p.few; clear = p.clear; counted = p.counted; saves_clear = p.saves_clear; saves_counted = p.saves_counted }
+held_by p = record { few = p.few; few_saves = p.few_saves; now = p.now; at_saves = p.at_saves }
 
 -- the meaning
 abbrev pub means : Parts → Meaning
-means s = record { marks = marks_of (word_in s.ws) s.size; saves = saves_of s.olds s.noted s.size (word_in s.ws) s.kept; free = 32 - s.kept }
+means s = record { marks = marks_of s.words s.size; saves = saves_of s.saves s.size s.words s.kept; free = 32 - s.kept }
 
--- Begin with n: ws are the words in which the numbers below n stand.
+-- the same words and the same count
+tallied : (n c d : ℕ) (f g : ℕ → ℕ) → g ≡ f → d ≡ c → Tallied n c f → Tallied n d g
+tallied n c d f g e q h = rw (e, q) h
 
-abbrev pub begun_parts : Parts → List ℕ → ℕ → Parts
-begun_parts s ws n = record { ws = ws; olds = s.olds; noted = s.noted; counts = s.counts; size = n; count = n; kept = 0 }
+-- Begin with n: f are the words in which the numbers below n stand.
 
-pub holds_begin : (s : Parts) (ws : List ℕ) (n : ℕ) → n ≤ 4096 → length ws ≡ 64 → Full n ws → Holds s → Holds (begun_parts s ws n)
-holds_begin s ws n l e h v = record {
-  long = (e, v.long.1);
-  few = (l, omega arith);
-  clear = h.clear;
-  counted = h.counted;
-  saves_clear = λ i z. absurd (let y : ⊥ = omega arith in y);
-  saves_counted = λ i z. absurd (let y : ⊥ = omega arith in y);
+abbrev pub begun_parts : Parts → (ℕ → ℕ) → ℕ → Parts
+begun_parts s f n = record { words = f; saves = s.saves; size = n; count = n; kept = 0 }
+
+pub holds_begin : (s : Parts) (f : ℕ → ℕ) (n : ℕ) → n ≤ 4096 → f ≡ full n → Holds (begun_parts s f n)
+holds_begin s f n l e = record {
+  few = l;
+  few_saves = omega arith;
+  now = rw e (record { clear = clear_full n; counted = count_full n });
+  at_saves = λ i z. absurd (omega arith);
 }
 
-pub begin_is : (s : Parts) (ws : List ℕ) (n : ℕ) → n ≤ 4096 → Full n ws → Done (Ok tt) (begin_answer 4096 n) (means (begun_parts s ws n)) (after_begin 4096 n (means s))
-begin_is s ws n l h =
+pub begin_is : (s : Parts) (f : ℕ → ℕ) (n : ℕ) → n ≤ 4096 → f ≡ full n → Done (Ok tt) (begin_answer 4096 n) (means (begun_parts s f n)) (after_begin 4096 n (means s))
+unfolding saves_of
+begin_is s f n l h =
     let d = begin_done 4096 n (means s) l in
-    let e : means (begun_parts s ws n) ≡ begun n
-    = λ i. record { marks = h.marks i; saves = no_saves s.olds s.noted n (word_in ws) 0 refl i; free = 32 } in
+    let e : means (begun_parts s f n) ≡ begun n = λ i. record { marks = (ap (λ g. marks_of g n) h ∙ marks_full n) i; saves = []; free = 32 } in
     record { answer = d.answer; after = e ∙ d.after }
 
--- Strike, of a number that stands: olds and noted are the trail with its word noted.
+-- Strike: f are the words without k, and the newest of the saves has noted its word.
 
-abbrev pub struck_parts : Parts → ℕ → (olds noted : List ℕ) → Parts
-struck_parts s k olds noted = record
-    { ws = without s.ws k; olds = olds; noted = noted; counts = s.counts; size = s.size; count = s.count - 1; kept = s.kept }
+-- what the saves hold stays
+pub record SavesKept (s : Parts) (f : ℕ → ℕ) (saves : List Save) : Type 0 where
+  pub marks : (n : ℕ) → saves_of saves n f s.kept ≡ saves_of s.saves n s.words s.kept
+  pub words : (i : ℕ) → i < s.kept → words_at saves f s.kept i ≡ words_at s.saves s.words s.kept i
+  pub counts : (i : ℕ) → (save_at saves i).count ≡ (save_at s.saves i).count
 
-module _ (s : Parts) (k : ℕ) (olds noted : List ℕ) (v : Holds s) (l : k < s.size) (h : mark (word_in s.ws) k ≡ true)
-    (t : SavesKept s.ws s.olds s.noted k s.kept olds noted) where
-  word : k / 64 < length s.ws
-  word = let q = v.long.0 in let z = v.few.0 in omega arith
+-- the newest save L notes the word
+kept_by : (s : Parts) (k L : ℕ) → s.kept ≡ suc L → L < length s.saves → k / 64 < length (save_at s.saves L).words
+    → SavesKept s (without s.words k) (set s.saves L (noting (save_at s.saves L) (k / 64) (s.words (k / 64))))
+unfolding saves_of words_at
+kept_by s k L n l b =
+    let w : ℕ = k / 64 in
+    let f : ℕ → ℕ = s.words in
+    let g : ℕ → ℕ = rewound (save_at s.saves L) f in
+    let newest : Save = noting (save_at s.saves L) w (f w) in
+    let e : rewound newest (without f k) ≡ g = rewound_noting (save_at s.saves L) w f (without f k) b (word_other f k) in
+    record {
+      marks = λ m. rw n (saves-set s.saves L newest (without f k) g l e m);
+      words = λ i z. rw n (words-set s.saves L newest (without f k) g l e i);
+      counts = λ i. noting_count s.saves L w (f w) i l;
+    }
 
+pub saves_kept : (s : Parts) (k : ℕ) → s.kept ≤ length s.saves → (0 < s.kept → k / 64 < length (save_at s.saves (s.kept - 1)).words)
+    → SavesKept s (without s.words k) (saves_noting s.saves s.kept (k / 64) (s.words (k / 64)))
+unfolding saves_of
+saves_kept s k l b = go s.kept refl
+  where
+    go : (K : ℕ) → s.kept ≡ K → SavesKept s (without s.words k) (saves_noting s.saves K (k / 64) (s.words (k / 64)))
+    go zero e = record { marks = λ n. rw e refl; words = λ i z. absurd (omega arith); counts = λ i. refl }
+    go (suc L) e =
+        let d : s.kept - 1 ≡ L = omega arith in
+        kept_by s k L e (omega arith) (rw d at (b (omega arith)))
+
+abbrev pub struck_parts : Parts → (ℕ → ℕ) → List Save → Parts
+struck_parts s f saves = record { words = f; saves = saves; size = s.size; count = s.count - 1; kept = s.kept }
+
+module _ (s : Parts) (k : ℕ) (f : ℕ → ℕ) (v : Holds s) (h : mark s.words k ≡ true) (e : f ≡ without s.words k) where
   -- there is one to count less
-  pub count_less : suc (trues (marks_of (word_in (without s.ws k)) s.size)) ≡ s.count
-  count_less = count_struck s.ws k s.size word h v.clear ∙ v.counted
+  pub count_less : suc (trues (marks_of f s.size)) ≡ s.count
+  count_less = rw e (count_struck s.words k s.size h v.now.clear ∙ v.now.counted)
 
-  pub holds_strike : Holds (struck_parts s k olds noted)
-  holds_strike = record {
-    long = (length_without s.ws k ∙ v.long.0, (t.long.0 ∙ v.long.1.0, (t.long.1 ∙ v.long.1.1.0, v.long.1.1.1)));
+  pub holds_strike : (saves : List Save) → SavesKept s f saves → Holds (struck_parts s f saves)
+  holds_strike saves t = record {
     few = v.few;
-    clear = clear_struck s.ws k s.size word h v.clear;
-    counted = let n = count_less in omega arith;
-    saves_clear = λ i q j. ap (λ g. mark g (s.size + j)) (t.words i q) ∙ v.saves_clear i q j;
-    saves_counted = λ i q. ap (λ g. trues (marks_of g s.size)) (t.words i q) ∙ v.saves_counted i q;
+    few_saves = v.few_saves;
+    now = record { clear = rw e (clear_struck s.words k s.size h v.now.clear); counted = let n = count_less in omega arith };
+    at_saves = λ i l. tallied s.size _ _ _ _ (t.words i l) (t.counts i) (v.at_saves i l);
   }
 
-  pub strike_is : means (struck_parts s k olds noted) ≡ struck (means s) k
-  strike_is = λ i. record { marks = marks_struck s.ws k s.size word h i; saves = t.saves s.size i; free = 32 - s.kept }
+  pub strike_is : (saves : List Save) → SavesKept s f saves → means (struck_parts s f saves) ≡ struck (means s) k
+  strike_is saves t = λ i. record { marks = (ap (λ g. marks_of g s.size) e ∙ marks_struck s.words k s.size h) i; saves = t.marks s.size i; free = 32 - s.kept }
 
--- Save.
+-- Save: the new save has no word noted.
 
-abbrev pub saved_parts : Parts → Parts
-saved_parts s = record {
-  ws = s.ws;
-  olds = s.olds;
-  noted = slice_set s.noted s.kept 0;
-  counts = slice_set s.counts s.kept s.count;
-  size = s.size;
-  count = s.count;
-  kept = suc s.kept;
-}
-
-at_save : (olds noted : List ℕ) (f : ℕ → ℕ) (kept i : ℕ) → kept < length noted → i ≡ kept → words_at olds (slice_set noted kept 0) f (suc kept) i ≡ f
-at_save olds noted f kept i b d = at-saved olds noted kept i f b ∙ ap (λ t. cond t f (words_at olds noted f kept i)) (eq-eqb i kept d)
-
-at_earlier : (olds noted : List ℕ) (f : ℕ → ℕ) (kept i : ℕ) → kept < length noted → i ≢ kept
-    → words_at olds (slice_set noted kept 0) f (suc kept) i ≡ words_at olds noted f kept i
-at_earlier olds noted f kept i b d = at-saved olds noted kept i f b ∙ ap (λ t. cond t f (words_at olds noted f kept i)) (ne_eqb i kept d)
+abbrev pub saved_parts : Parts → Save → Parts
+saved_parts s new = record { words = s.words; saves = set s.saves s.kept new; size = s.size; count = s.count; kept = suc s.kept }
 
 pub save_none : (s : Parts) → s.kept ≡ 32 → Done (Err NoSaveFree) (save_answer (means s)) (means s) (after_save (means s))
 save_none s e = save_declined (means s) (omega arith)
 
-module _ (s : Parts) (v : Holds s) (l : s.kept < 32) where
-  masks : s.kept < length s.noted
-  masks = let q = v.long.1.1.0 in omega arith
+module _ (s : Parts) (new : Save) (v : Holds s) (l : s.kept < 32) (b : s.kept < length s.saves) (z : new.noted ≡ 0) (c : new.count ≡ s.count) where
+  fresh : rewound new s.words ≡ s.words
+  fresh = rewound_fresh new s.words z
 
-  pub holds_save : Holds (saved_parts s)
+  pub holds_save : Holds (saved_parts s new)
   holds_save =
-      let f : ℕ → ℕ = word_in s.ws in
-      let c : s.kept < length s.counts = let q = v.long.1.1.1 in omega arith in
+      let at : (i : ℕ) → _ = words-set s.saves s.kept new s.words s.words b fresh in
       record {
-        long = (v.long.0, (v.long.1.0, (length-set s.noted s.kept 0 ∙ v.long.1.1.0, length-set s.counts s.kept s.count ∙ v.long.1.1.1)));
-        few = (v.few.0, omega arith);
-        clear = v.clear;
-        counted = v.counted;
-        saves_clear = λ i h k. elim (cases_eq i s.kept) [
-          | inl d ↦ ap (λ g. mark g (s.size + k)) (at_save s.olds s.noted f s.kept i masks d) ∙ v.clear k
-          | inr d ↦ ap (λ g. mark g (s.size + k)) (at_earlier s.olds s.noted f s.kept i masks d) ∙ v.saves_clear i (omega arith) k
-        ];
-        saves_counted = λ i h. elim (cases_eq i s.kept) [
-          | inl d ↦
-              ap (λ g. trues (marks_of g s.size)) (at_save s.olds s.noted f s.kept i masks d) ∙ v.counted
-              ∙ sym (ap (λ j. slice_index (slice_set s.counts s.kept s.count) j) d ∙ get_or-set_same s.counts s.kept s.count 0 c)
-          | inr d ↦
-              ap (λ g. trues (marks_of g s.size)) (at_earlier s.olds s.noted f s.kept i masks d) ∙ v.saves_counted i (omega arith)
-              ∙ sym (get_or-set_other s.counts s.kept i s.count 0 d)
+        few = v.few;
+        few_saves = omega arith;
+        now = v.now;
+        at_saves = λ i h. elim (cases_eq i s.kept) [
+          | inl d ↦ tallied s.size _ _ _ _ (grind (arith, at i)) (grind (arith, common_steps)) v.now
+          | inr d ↦ tallied s.size _ _ _ _ (grind (arith, at i)) (grind (arith, common_steps)) (v.at_saves i (omega arith))
         ];
       }
 
-  pub save_is : Done (Ok tt) (save_answer (means s)) (means (saved_parts s)) (after_save (means s))
+  pub save_is : Done (Ok tt) (save_answer (means s)) (means (saved_parts s new)) (after_save (means s))
   save_is =
       let d = save_done (means s) (omega arith) in
       let q : 32 - suc s.kept ≡ 32 - s.kept - 1 = omega arith in
-      let e : means (saved_parts s) ≡ saved (means s)
-      = λ i. record {
-        marks = marks_of (word_in s.ws) s.size;
-        saves = saves_saved s.olds s.noted s.size s.kept (word_in s.ws) masks i;
-        free = q i;
-      } in
+      let e : means (saved_parts s new) ≡ saved (means s)
+      = λ i. record { marks = marks_of s.words s.size; saves = saves-set s.saves s.kept new s.words s.words b fresh s.size i; free = q i } in
       record { answer = d.answer; after = e ∙ d.after }
 
--- Back to the save K, the newest: vs are the words with those put back that it noted.
+-- Back to the save K, the newest: f are the words with those put back that it noted, and the saves stay.
 
-abbrev pub back_parts : Parts → List ℕ → ℕ → Parts
-back_parts s vs K = record
-    { ws = vs; olds = s.olds; noted = s.noted; counts = s.counts; size = s.size; count = slice_index s.counts K; kept = K }
+abbrev pub back_parts : Parts → (ℕ → ℕ) → List Save → ℕ → Parts
+back_parts s f saves K = record { words = f; saves = saves; size = s.size; count = (save_at s.saves K).count; kept = K }
 
 pub back_none : (s : Parts) → s.kept ≡ 0 → Done (Err NoSaveKept) (back_answer (means s)) (means s) (after_back (means s))
-back_none s e = back_declined (means s) (no_saves s.olds s.noted s.size (word_in s.ws) s.kept e)
+unfolding saves_of
+back_none s e = back_declined (means s) (rw e refl)
 
-module _ (s : Parts) (vs : List ℕ) (K : ℕ) (v : Holds s) (n : s.kept ≡ suc K) (e : word_in vs ≡ rewound s.olds s.noted K (word_in s.ws)) where
-  pub holds_back : length vs ≡ 64 → Holds (back_parts s vs K)
-  holds_back l =
-      let f : ℕ → ℕ = word_in s.ws in
-      let at : ℕ → ℕ → ℕ → ℕ = words_at s.olds s.noted f in
-      let new : word_in vs ≡ at s.kept K = e ∙ sym (at_newest s.olds s.noted f K) ∙ ap (λ x. at x K) (sym n) in
-      let old : (i : ℕ) → i < K → words_at s.olds s.noted (word_in vs) K i ≡ at s.kept i
-      = λ i b. ap (λ g. words_at s.olds s.noted g K i) e ∙ sym (at_older s.olds s.noted f K i b) ∙ ap (λ x. at x i) (sym n) in
-      let b : K < s.kept = omega arith in
-      record {
-        long = (l, v.long.1);
-        few = (v.few.0, let h = v.few.1 in omega arith);
-        clear = λ k. ap (λ g. mark g (s.size + k)) new ∙ v.saves_clear K b k;
-        counted = ap (λ g. trues (marks_of g s.size)) new ∙ v.saves_counted K b;
-        saves_clear = λ i h k. ap (λ g. mark g (s.size + k)) (old i h) ∙ v.saves_clear i (omega arith) k;
-        saves_counted = λ i h. ap (λ g. trues (marks_of g s.size)) (old i h) ∙ v.saves_counted i (omega arith);
-      }
+module _ (s : Parts) (f : ℕ → ℕ) (saves : List Save) (K : ℕ) (v : Holds s) (n : s.kept ≡ suc K) (e : f ≡ rewound (save_at s.saves K) s.words)
+    (q : saves ≡ s.saves) where
+  newest_at : f ≡ words_at s.saves s.words s.kept K
+  unfolding words_at
+  newest_at = rw (n, e) (sym (cond-true _ _ _ (eq-eqb K K refl)))
 
-  pub back_is : Done (Ok tt) (back_answer (means s)) (means (back_parts s vs K)) (after_back (means s))
+  older_at : (i : ℕ) → i < K → words_at saves f K i ≡ words_at s.saves s.words s.kept i
+  unfolding words_at
+  older_at i b = rw (n, q, e) (sym (cond-false _ _ _ (ne_eqb i K (λ d. omega arith))))
+
+  pub holds_back : Holds (back_parts s f saves K)
+  holds_back = record {
+    few = v.few;
+    few_saves = let h = v.few_saves in omega arith;
+    now = tallied s.size _ _ _ _ newest_at refl (v.at_saves K (omega arith));
+    at_saves = λ i h. tallied s.size _ _ _ _ (older_at i h) (ap (λ ss. (save_at ss i).count) q) (v.at_saves i (omega arith));
+  }
+
+  pub back_is : Done (Ok tt) (back_answer (means s)) (means (back_parts s f saves K)) (after_back (means s))
+  unfolding saves_of
   back_is =
-      let f : ℕ → ℕ = word_in s.ws in
-      let g : ℕ → ℕ = rewound s.olds s.noted K f in
-      let saves : ℕ → List _ = saves_of s.olds s.noted s.size f in
-      let d = back_done (means s) (marks_of g s.size) (saves_of s.olds s.noted s.size g K)
-      (ap saves n ∙ saves_newest s.olds s.noted s.size f K) in
-      let q : 32 - K ≡ 32 - s.kept + 1 = let h = v.few.1 in omega arith in
+      let g : ℕ → ℕ = rewound (save_at s.saves K) s.words in
+      let d = back_done (means s) (marks_of g s.size) (saves_of s.saves s.size g K) (rw n refl) in
+      let l : 32 - K ≡ 32 - s.kept + 1 = let h = v.few_saves in omega arith in
       record {
         answer = d.answer;
-        after = (λ i. record { marks = marks_of (e i) s.size; saves = saves_of s.olds s.noted s.size (e i) K; free = q i }) ∙ d.after;
+        after = (λ i. record { marks = marks_of (e i) s.size; saves = saves_of (q i) s.size (e i) K; free = l i }) ∙ d.after;
       }

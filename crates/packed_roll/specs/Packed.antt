@@ -8,7 +8,7 @@ use Rattle.packed_roll.specs.declared.packed.PackedRoll.{PackedRoll}
 unfoldable pub meaning_of : PackedRoll → Meaning
 meaning_of p = record {
   marks = marks_of (word_in p.words.bits) p.size;
-  saves = saves_of p.trail.olds p.trail.noted p.size (word_in p.words.bits) p.kept;
+  saves = saves_of p.trail.saves p.size (word_in p.words.bits) p.kept;
   free = 32 - p.kept;
 }
 
@@ -17,4 +17,4 @@ abbrev pub NoBitBeyond : Type 0
 NoBitBeyond =
     (p : PackedRoll) (k : ℕ) → p.size ≤ k
     → (mark (word_in p.words.bits) k ≡ false)
-    × ((i : ℕ) → i < p.kept → mark (words_at p.trail.olds p.trail.noted (word_in p.words.bits) p.kept i) k ≡ false)
+    × ((i : ℕ) → i < p.kept → mark (words_at p.trail.saves (word_in p.words.bits) p.kept i) k ≡ false)

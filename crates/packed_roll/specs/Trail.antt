@@ -1,28 +1,34 @@
--- What the words were at each save. Saves are numbered from 0, the oldest. For the save L the word w is noted where bit w of
--- `noted` at L is set: it was overwritten since, and `olds` at L * 64 + w is what it was.
-use Rattle.std.specs.Prelude.{ℕ, zero, suc, ◌+◌, ◌*◌, ◌^◌, cond, ◌&&◌, List, [], ◌∷◌, ◌==◌, bit_xor, nat_lt, slice_index, slice_set}
+-- What the words were at each save. Saves are numbered from 0, the oldest. A save notes the word w where bit w of its `noted` is
+-- set: it was overwritten since, and `words` has what it was.
+use Rattle.std.specs.Prelude.{ℕ, zero, suc, ◌^◌, if◌then◌else◌, List, [], ◌∷◌, ◌==◌, bit_xor, slice_index, slice_index_or, slice_set}
 use Rattle.roll.specs.Meaning.{Marks}
 use Rattle.packed_roll.specs.Words.{bit, marks_of}
+use Rattle.packed_roll.specs.declared.trail.Save.{Save}
 
--- the words at the save L, by the words at the save after it or, for the newest save, now: a word that is noted is what it was
-unfoldable pub rewound : (olds noted : List ℕ) → ℕ → (ℕ → ℕ) → ℕ → ℕ
-rewound olds noted L later w = cond (nat_lt w 64 && bit (slice_index noted L) w) (slice_index olds (L * 64 + w)) (later w)
+-- the save with the number L
+abbrev pub save_at : List Save → ℕ → Save
+save_at saves L = slice_index_or saves L (record { noted = 0; words = []; count = 0 })
+
+-- the words at a save, by the words at the save after it or, for the newest save, now: a word that is noted is what it was
+abbrev pub rewound : Save → (ℕ → ℕ) → ℕ → ℕ
+rewound save later w = if bit save.noted w then slice_index save.words w else later w
 
 -- the words at the save L of K saves kept, where f gives the words now
-unfoldable pub words_at : (olds noted : List ℕ) → (ℕ → ℕ) → ℕ → ℕ → ℕ → ℕ
-words_at olds noted f zero L = f
-words_at olds noted f (suc K) L = cond (L == K) (rewound olds noted K f) (words_at olds noted (rewound olds noted K f) K L)
+unfoldable pub words_at : List Save → (ℕ → ℕ) → ℕ → ℕ → ℕ → ℕ
+words_at saves f zero L = f
+words_at saves f (suc K) L = if L == K then rewound (save_at saves K) f else words_at saves (rewound (save_at saves K) f) K L
 
 -- the marks at each of K saves kept, the newest first
-unfoldable pub saves_of : (olds noted : List ℕ) → ℕ → (ℕ → ℕ) → ℕ → List Marks
-saves_of olds noted n f zero = []
-saves_of olds noted n f (suc K) = marks_of (rewound olds noted K f) n ∷ saves_of olds noted n (rewound olds noted K f) K
+unfoldable pub saves_of : List Save → ℕ → (ℕ → ℕ) → ℕ → List Marks
+saves_of saves n f zero = []
+saves_of saves n f (suc K) = marks_of (rewound (save_at saves K) f) n ∷ saves_of saves n (rewound (save_at saves K) f) K
 
--- before the word w, so far `old`, is overwritten: the newest of K saves notes it, unless it has it noted
-unfoldable pub olds_after : (olds noted : List ℕ) → ℕ → ℕ → ℕ → List ℕ
-olds_after olds noted zero w old = olds
-olds_after olds noted (suc L) w old = cond (bit (slice_index noted L) w) olds (slice_set olds (L * 64 + w) old)
+-- before the word w, so far `old`, is overwritten: the save notes it, unless it has it noted
+abbrev pub noting : Save → ℕ → ℕ → Save
+noting save w old =
+    if bit save.noted w then save else record save { noted = bit_xor save.noted (2 ^ w); words = slice_set save.words w old }
 
-unfoldable pub noted_after : List ℕ → ℕ → ℕ → List ℕ
-noted_after noted zero w = noted
-noted_after noted (suc L) w = cond (bit (slice_index noted L) w) noted (slice_set noted L (bit_xor (slice_index noted L) (2 ^ w)))
+-- the newest of K saves notes it
+abbrev pub saves_noting : List Save → ℕ → ℕ → ℕ → List Save
+saves_noting saves zero w old = saves
+saves_noting saves (suc L) w old = slice_set saves L (noting (save_at saves L) w old)

@@ -1,11 +1,12 @@
 -- Which numbers the bits of 64-bit words stand for.
-use Rattle.std.specs.Prelude.{◌≡◌, ℕ, ◌+◌, ◌-◌, ◌*◌, ◌/◌, ◌%◌, ◌^◌, ◌<◌, ◌≤◌, min, Bool, true, false, List, map, Some, None, Option, ◌==◌, bit_xor, slice_index, slice_set}
+use Rattle.std.specs.Prelude.{◌≡◌, ℕ, ◌+◌, ◌-◌, ◌*◌, ◌/◌, ◌%◌, ◌^◌, ◌<◌, ◌≤◌, min, Bool, true, false, if◌then◌else◌, List, map, Some, None, Option, ◌==◌, bit_xor, slice_index}
+use Rattle.std.specs.Int.{bit_at}
 use Rattle.std.specs.List.{range_with_len}
-use Rattle.roll.specs.Meaning.{Marks}
+use Rattle.roll.specs.Meaning.{Marks, trues}
 
 -- whether bit j of the word w is set
-unfoldable pub bit : ℕ → ℕ → Bool
-bit w j = w / 2 ^ j % 2 == 1
+abbrev pub bit : ℕ → ℕ → Bool
+bit w j = bit_at w j == 1
 
 -- bit t is the lowest bit of the word w, at or after bit j, that is set
 pub record LowestBit (w j t : ℕ) : Type 0 where
@@ -20,7 +21,7 @@ LowestFrom w j None = (i : ℕ) → j ≤ i → bit w i ≡ false
 LowestFrom w j (Some t) = LowestBit w j t
 
 -- whether the number k stands, where f gives each word
-unfoldable pub mark : (ℕ → ℕ) → ℕ → Bool
+abbrev pub mark : (ℕ → ℕ) → ℕ → Bool
 mark f k = bit (f (k / 64)) (k % 64)
 
 -- the marks of the numbers below n
@@ -35,10 +36,15 @@ word_in ws w = slice_index ws w
 abbrev pub Clear : ℕ → (ℕ → ℕ) → Type 0
 Clear n f = (k : ℕ) → mark f (n + k) ≡ false
 
+-- count numbers stand, all of them below n
+pub record Tallied (n count : ℕ) (f : ℕ → ℕ) : Type 0 where
+  pub clear : Clear n f
+  pub counted : trues (marks_of f n) ≡ count
+
 -- the word w where just the numbers below n stand
-unfoldable pub full : ℕ → ℕ → ℕ
+abbrev pub full : ℕ → ℕ → ℕ
 full n w = 2 ^ (min (n - w * 64) 64) - 1
 
--- the words with the bit of k turned
-unfoldable pub without : List ℕ → ℕ → List ℕ
-without ws k = slice_set ws (k / 64) (bit_xor (slice_index ws (k / 64)) (2 ^ (k % 64)))
+-- the words, where f gives each, with the bit of k turned
+abbrev pub without : (ℕ → ℕ) → ℕ → ℕ → ℕ
+without f k w = if w == k / 64 then bit_xor (f w) (2 ^ (k % 64)) else f w

@@ -12,8 +12,6 @@ mod words;
 pub use packed::PackedRoll;
 
 // No packed roll has a bit set at or above its size, now or at a save.
-pub fn no_bit_beyond() -> u8
+pub fn no_bit_beyond()
     ensures { NoBitBeyond }
-{
-    0
-}
+{}

@@ -1,7 +1,6 @@
-ghost use Rattle.std.specs.Prelude.{◌≡◌, ℕ, ◌<◌, ◌≤◌, length, slice_index};
-ghost use Rattle.packed_roll.specs.Trail.{words_at};
-ghost use Rattle.packed_roll.specs.Words.{Clear, marks_of, word_in};
-ghost use Rattle.roll.specs.Meaning.{trues};
+ghost use Rattle.std.specs.Prelude.{ℕ, ◌<◌, ◌≤◌};
+ghost use Rattle.packed_roll.specs.Trail.{save_at, words_at};
+ghost use Rattle.packed_roll.specs.Words.{Tallied, word_in};
 
 use crate::trail::Trail;
 use crate::words::Words;
@@ -17,10 +16,9 @@ pub struct PackedRoll {
     size: u32,
     count: u32,
     kept: u32,
-    ghost long: { (length words.bits ≡ 64) × ((length trail.olds ≡ 2048) × ((length trail.noted ≡ 32) × (length trail.counts ≡ 32))) },
-    ghost few: { (size ≤ 4096) × (kept ≤ 32) },
-    ghost clear: { Clear size (word_in words.bits) },
-    ghost counted: { trues (marks_of (word_in words.bits) size) ≡ count },
-    ghost saves_clear: { ((i : ℕ) → i < kept → Clear size (words_at trail.olds trail.noted (word_in words.bits) kept i)) },
-    ghost saves_counted: { ((i : ℕ) → i < kept → trues (marks_of (words_at trail.olds trail.noted (word_in words.bits) kept i) size) ≡ slice_index trail.counts i) },
+    ghost few: { size ≤ 4096 },
+    ghost few_saves: { kept ≤ 32 },
+    ghost now: { Tallied size count (word_in words.bits) },
+    ghost at_saves: { ((i : ℕ) → i < kept
+        → Tallied size (save_at trail.saves i).count (words_at trail.saves (word_in words.bits) kept i)) },
 }

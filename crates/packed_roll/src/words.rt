@@ -1,7 +1,9 @@
-ghost use Rattle.std.specs.Prelude.{◌≡◌, ℕ, ◌+◌, ◌<◌, ◌≤◌, length, if◌then◌else◌, slice_index};
-ghost use Rattle.packed_roll.specs.Words.{bit, full, mark, without, word_in};
+ghost use Rattle.std.specs.Prelude.{◌≡◌, ◌<◌, ◌≤◌};
+ghost use Rattle.packed_roll.specs.Trail.{rewound};
+ghost use Rattle.packed_roll.specs.Words.{full, mark, without, word_in};
 
 use crate::bits::has_bit;
+use crate::trail::Save;
 
 // The bits of a packed roll: bit k % 64 of the word k / 64 is set where the number k stands.
 #[derive(Drop)]
@@ -21,7 +23,7 @@ impl Words {
     // Takes k out, which stands.
     pub(crate) fn clear(&mut self, k: u32)
         requires { k < 4096 }
-        ensures { self.new.bits ≡ without self.old.bits k }
+        ensures { word_in self.new.bits ≡ without (word_in self.old.bits) k }
     {
         self.bits[(k / 64) as usize] ^= 1 << (k % 64);
     }
@@ -29,31 +31,28 @@ impl Words {
     // Lets the numbers below n stand, and no others.
     pub(crate) fn fill(&mut self, n: u32)
         requires { n ≤ 4096 }
-        ensures words { (w : ℕ) → w < 64 → slice_index self.new.bits w ≡ full n w }
-        ensures long { length self.new.bits ≡ 64 }
+        ensures { word_in self.new.bits ≡ full n }
     {
-        for w in 0..64u32 {
-            let rest = n.saturating_sub(w * 64).min(64);
-            self.bits[w as usize] = if rest == 64 {
+        for (w, word) in self.bits.iter_mut().enumerate() {
+            let rest = n.saturating_sub(w as u32 * 64).min(64);
+            *word = if rest == 64 {
                 u64::MAX
             } else {
                 (1 << rest) - 1
             };
         }
     }
-}
 
-// Puts back the words that the mask has a bit for: the word w from olds[from + w]. It takes as many turns as
-// the mask has bits.
-pub(crate) fn restore(bits: &mut [u64; 64], olds: &[u64; 2048], from: usize, mask: u64)
-    requires { from + 64 ≤ 2048 }
-    ensures words { (w : ℕ) → w < 64 → slice_index bits.new w ≡ (if bit mask w then slice_index olds.now (from + w) else slice_index bits.old w) }
-    ensures long { length bits.new ≡ 64 }
-{
-    let mut left = mask;
-    while left != 0 {
-        let w = left.trailing_zeros();
-        bits[w as usize] = olds[from + w as usize];
-        left ^= 1 << w;
+    // Puts back the words that the save noted. It goes by the bits of `noted`, since a loop over the words would take
+    // 64 turns to put back one.
+    pub(crate) fn restore(&mut self, save: &Save)
+        ensures { word_in self.new.bits ≡ rewound save.now (word_in self.old.bits) }
+    {
+        let mut left = save.noted;
+        while left != 0 {
+            let w = left.trailing_zeros();
+            self.bits[w as usize] = save.words[w as usize];
+            left ^= 1 << w;
+        }
     }
 }

@@ -4,8 +4,8 @@ ghost use Rattle.std.proofs.Common.{rules};
 
 use crate::bits::lowest_bit;
 use crate::packed::PackedRoll;
-use crate::trail::Trail;
-use crate::words::{Words, restore};
+use crate::trail::{Save, Trail};
+use crate::words::Words;
 use refusal::Refusal;
 use roll::{Exactly, Roll};
 
@@ -28,9 +28,11 @@ impl Roll for PackedRoll {
         PackedRoll {
             words: Words { bits: [0; 64] },
             trail: Trail {
-                olds: [0; 2048],
-                noted: [0; 32],
-                counts: [0; 32],
+                saves: [Save {
+                    noted: 0,
+                    words: [0; 64],
+                    count: 0,
+                }; 32],
             },
             size: 0,
             count: 0,
@@ -82,15 +84,11 @@ impl Roll for PackedRoll {
 
     // Goes by words, from the place's own bit on in its word and from bit 0 on in the words after it.
     fn first_from(&self, place: u32) -> Option<u32> {
-        if place >= self.size {
-            return None;
-        }
-        let mut from = place % 64;
         for w in place / 64..self.size.div_ceil(64) {
+            let from = place.saturating_sub(w * 64);
             if let Some(j) = lowest_bit(self.words.bits[w as usize], from) {
                 return Some(w * 64 + j);
             }
-            from = 0;
         }
         None
     }
@@ -99,9 +97,9 @@ impl Roll for PackedRoll {
         if self.kept == 32 {
             return Err(Refusal::NoSaveFree);
         }
-        let newest = self.kept as usize;
-        self.trail.noted[newest] = 0;
-        self.trail.counts[newest] = self.count;
+        let save = &mut self.trail.saves[self.kept as usize];
+        save.noted = 0;
+        save.count = self.count;
         self.kept += 1;
         Ok(())
     }
@@ -110,10 +108,9 @@ impl Roll for PackedRoll {
         if self.kept == 0 {
             return Err(Refusal::NoSaveKept);
         }
-        let newest = (self.kept - 1) as usize;
-        let mask = self.trail.noted[newest];
-        restore(&mut self.words.bits, &self.trail.olds, newest * 64, mask);
-        self.count = self.trail.counts[newest];
+        let save = &self.trail.saves[(self.kept - 1) as usize];
+        self.words.restore(save);
+        self.count = save.count;
         self.kept -= 1;
         Ok(())
     }

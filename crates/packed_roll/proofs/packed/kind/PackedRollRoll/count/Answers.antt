@@ -4,4 +4,4 @@ use Rattle.packed_roll.proofs.packed.kind.PackedRollRoll.count.Goals as goal
 
 pub returns : goal.returns
 unfolding meaning_of
-returns c = let e = c.args.self.now.counted in omega arith
+returns c = let e = c.args.self.now.now.counted in omega arith

@@ -6,7 +6,4 @@ use Rattle.packed_roll.proofs.packed.kind.PackedRollRoll.kept.Goals as goal
 
 pub returns : goal.returns
 unfolding meaning_of
-returns c =
-    let p = c.args.self.now in
-    let e = length_saves p.trail.olds p.trail.noted p.size (word_in p.words.bits) p.kept in
-    omega arith
+returns c = let p = c.args.self.now in let e = length_saves p.trail.saves p.size (word_in p.words.bits) p.kept in omega arith

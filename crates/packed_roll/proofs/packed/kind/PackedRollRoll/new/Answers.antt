@@ -1,4 +1,4 @@
-use Rattle.std.proofs.Common.{refl, arith}
+use Rattle.std.proofs.Common.{◌+◌, refl, arith}
 use Rattle.packed_roll.specs.Packed.{meaning_of}
 use Rattle.packed_roll.specs.Words.{marks_of}
 use Rattle.packed_roll.specs.Trail.{saves_of}
@@ -8,12 +8,10 @@ use Rattle.packed_roll.proofs.packed.kind.PackedRollRoll.new.Goals as goal
 pub invariant_of-result : goal.invariant_of-result
 unfolding marks_of
 invariant_of-result c = record {
-  long = (refl, (refl, (refl, refl)));
-  few = (omega arith, omega arith);
-  clear = λ k. clear_zeros 64 _;
-  counted = refl;
-  saves_clear = λ i z. absurd (let y : ⊥ = omega arith in y);
-  saves_counted = λ i z. absurd (let y : ⊥ = omega arith in y);
+  few = omega arith;
+  few_saves = omega arith;
+  now = record { clear = λ k. clear_zeros 64 (0 + k); counted = refl };
+  at_saves = λ i z. absurd (omega arith);
 }
 
 pub returns : goal.returns

@@ -9,7 +9,7 @@ pub returns-then-k-self : goal.returns-then-k-self
 unfolding meaning_of
 returns-then-k-self c =
     let p = c.args.self.now in
-    c.has.ensures ∙ sym (marks_at p.size (word_in p.words.bits) p.clear c.args.k)
+    c.has.ensures ∙ sym (marks_at p.size (word_in p.words.bits) p.now.clear c.args.k)
 
 pub returns-else-k-self : goal.returns-else-k-self
 unfolding meaning_of
