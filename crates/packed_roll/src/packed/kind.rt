@@ -7,18 +7,14 @@ use crate::packed::PackedRoll;
 use crate::trail::{Save, Trail};
 use crate::words::Words;
 use refusal::Refusal;
-use roll::{Exactly, Roll};
+use roll::Roll;
 
 impl Roll for PackedRoll {
-    type Most = Exactly<4096>;
+    const MOST: u32 = 4096;
 
-    const MOST: Exactly<4096> = Exactly { value: 4096 };
-
-    ghost most = { 4096 };
+    ghost MOST = { 4096 };
 
     ghost meaning = { meaning_of };
-
-    ghost same = { Prim.search rules };
 
     ghost few = { Prim.search rules };
 
@@ -41,7 +37,7 @@ impl Roll for PackedRoll {
     }
 
     fn begin(&mut self, n: u32) -> Result<(), Refusal> {
-        if n > Self::MOST.value {
+        if n > Self::MOST {
             return Err(Refusal::AboveMost);
         }
         self.words.fill(n);
