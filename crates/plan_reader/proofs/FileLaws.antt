@@ -1,6 +1,5 @@
 -- A whole file, from its body; and the answer to it in the words of plan files.
-use Rattle.std.proofs.Common.{◌≡◌, ℕ, ◌≤◌, true, false, List, length, Ok, Err, Result, min, take, sym, refl, ap, ◌∙◌, arith}
-use Rattle.std.proofs.lemmas.List.{take_min}
+use Rattle.std.proofs.Common.{◌≡◌, ℕ, ◌≤◌, true, false, List, length, Ok, Err, Result, take, sym, refl, ap, ◌∙◌, arith}
 use Rattle.refusal.specs.declared.reason.Refusal.{Refusal}
 use Rattle.refusal.specs.declared.reason.Refusal.TheVariants.{Unnamed, NotPadded}
 use Rattle.model.specs.Plan.{Plan}
@@ -23,22 +22,28 @@ use Rattle.plan_reader.specs.declared.numbers.Numbers.{Numbers}
 use Rattle.plan_reader.specs.declared.reader.Reader.{Reader}
 use Rattle.plan_reader.proofs.MarkLaws.{all_below_same}
 
--- a body read from the front of a file
-at_front : (file : List ℕ) (a : Reader) → a.file.now ≡ file → a.place ≡ 0 → body (bits file) 0 ≡ body (bits a.file.now) a.place
-at_front file a front start = ap (λ (bytes : List ℕ). body (bits bytes) 0) (sym front) ∙ ap (λ p. body (bits a.file.now) p) (sym start)
+-- a reader at the front of a file holds its first 65,536 bytes, and their body is the file's
+at_front : (bytes : List ℕ) (a : Reader) → a.file.now ≡ bytes → a.place ≡ 0 → body (bits bytes) 0 ≡ body (bits a.file.now) a.place
+at_front bytes a front start = ap (λ (b : List ℕ). body (bits b) 0) (sym front) ∙ ap (λ p. body (bits a.file.now) p) (sym start)
 
 -- a body that is refused
-pub body_stops : (file : List ℕ) (a b : Reader) (why : Refusal) → a.file.now ≡ file → a.place ≡ 0 → Keeps HeadOfPlan a b (Err why) body → read file ≡ refused why
-body_stops file a b why front start k = let e : body (bits file) 0 ≡ refused why = at_front file a front start ∙ k.reads in rw e refl
+pub body_stops : (file : List ℕ) (a b : Reader) (why : Refusal) → a.file.now ≡ take 65536 file → a.place ≡ 0 → Keeps HeadOfPlan a b (Err why) body
+    → read file ≡ refused why
+body_stops file a b why front start k =
+    let e : body (bits (take 65536 file)) 0 ≡ refused why = at_front (take 65536 file) a front start ∙ k.reads in
+    sym (reads_no_further file) ∙ rw e refl
 
 -- a reader that went from a, at the front of a file, to b has read the body of the file, and kept this head of the plan
-module _ (file : List ℕ) (a b : Reader) (head : PlanHead) (front : a.file.now ≡ file) (start : a.place ≡ 0) (k : Keeps HeadOfPlan a b (Ok head) body)
+module _ (file : List ℕ) (a b : Reader) (head : PlanHead) (front : a.file.now ≡ take 65536 file) (start : a.place ≡ 0) (k : Keeps HeadOfPlan a b (Ok head) body)
     (n : ℕ) (settings : n ≡ length head.counts) (few : n ≤ 32) where
   abbrev pub plan : Plan
   plan = k.reads.0
 
-  body_is : body (bits file) 0 ≡ got plan b.place
-  body_is = at_front file a front start ∙ k.reads.1
+  abbrev bytes : List ℕ
+  bytes = take 65536 file
+
+  body_is : body (bits bytes) 0 ≡ got plan b.place
+  body_is = at_front bytes a front start ∙ k.reads.1
 
   -- the marks tell whether every setting is named
   named_is : all_below n (marked head.named) ≡ all_named (length plan.counts) plan.tables
@@ -47,23 +52,17 @@ module _ (file : List ℕ) (a b : Reader) (head : PlanHead) (front : a.file.now 
       all_below_same n (marked head.named) (λ s. any (names s) plan.tables) (λ s l. h.named s (omega arith))
       ∙ ap (λ m. all_named m plan.tables) (settings ∙ ap length h.counts)
 
-  padded_is : padded (bits b.file.now) b.place ≡ padded (bits file) b.place
-  padded_is = ap (λ (bytes : List ℕ). padded (bits bytes) b.place) (k.same ∙ front)
+  padded_is : padded (bits b.file.now) b.place ≡ padded (bits bytes) b.place
+  padded_is = ap (λ (file : List ℕ). padded (bits file) b.place) (k.same ∙ front)
 
   pub read_unnamed : false ≡ all_below n (marked head.named) → read file ≡ refused (Unnamed b.place)
-  read_unnamed e = rw (body_is, ← named_is, ← e) refl
+  read_unnamed e = sym (reads_no_further file) ∙ rw (body_is, ← named_is, ← e) refl
 
   pub read_unpadded : true ≡ all_below n (marked head.named) → false ≡ padded (bits b.file.now) b.place → read file ≡ refused (NotPadded b.place)
-  read_unpadded e f = rw (body_is, ← named_is, ← e, ← padded_is, ← f) refl
+  read_unpadded e f = sym (reads_no_further file) ∙ rw (body_is, ← named_is, ← e, ← padded_is, ← f) refl
 
   pub read_got : true ≡ all_below n (marked head.named) → true ≡ padded (bits b.file.now) b.place → read file ≡ got plan b.place
-  read_got e f = rw (body_is, ← named_is, ← e, ← padded_is, ← f) refl
-
--- the answer to the front of a file is that to the file
-pub front_answers : (file : List ℕ) (n : ℕ) (r : Result Numbers Refusal) → n ≡ min 65536 (length file) → r ≡ answer numbers_of (read (take n file)) → r ≡ answer numbers_of (read file)
-front_answers file n r m e =
-    e ∙ ap (λ k. answer numbers_of (read (take k file))) m ∙ ap (λ (bytes : List ℕ). answer numbers_of (read bytes)) (take_min 65536 file)
-    ∙ ap (answer numbers_of) (reads_no_further file)
+  read_got e f = sym (reads_no_further file) ∙ rw (body_is, ← named_is, ← e, ← padded_is, ← f) refl
 
 answer_ok : {A B : Type 0} (f : A → B) (r : Read A) (x : B) → Ok x ≡ answer f r → (a : A) × (q : ℕ) × (r ≡ got a q) × (x ≡ f a)
 answer_ok f (got a q) x e = (a, q, refl, ok_is x (f a) e)

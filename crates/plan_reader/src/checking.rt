@@ -1,4 +1,4 @@
-ghost use Rattle.std.specs.Prelude.{◌≡◌, ◌≤◌, length};
+ghost use Rattle.std.specs.Prelude.{◌≡◌};
 ghost use Rattle.plan_format.specs.Reading.{read};
 ghost use Rattle.plan_reader.specs.Checking.{answer, Judges, numbers_of};
 
@@ -6,13 +6,8 @@ use crate::numbers::Numbers;
 use crate::reader::Reader;
 use refusal::Refusal;
 
-// More bytes than any plan file has. No more of a file is looked at: `plan_format::reads_no_further` says that
-// nothing depends on it.
-const MOST: usize = 65_536;
-
 // Reads a file front to back.
 fn judge(file: &[u8]) -> Result<Numbers, Refusal>
-    requires { length file.now ≤ MOST }
     ensures { result ≡ answer numbers_of (read file.now) }
 {
     let mut reader = Reader::new(file);
@@ -38,5 +33,5 @@ pub fn check(file: &[u8]) -> Result<Numbers, Refusal>
     ensures answers { result ≡ answer numbers_of (read file.now) }
     ensures judges { Judges file.now result }
 {
-    judge(&file[..MOST.min(file.len())])
+    judge(file)
 }

@@ -1,5 +1,3 @@
-ghost use Rattle.std.specs.Prelude.{◌<◌, ◌≤◌, length};
-
 use plan_reader::{Numbers, check};
 use refusal::Refusal;
 use std::alloc::{AllocError, Global};
@@ -46,11 +44,9 @@ impl FileBits {
         }
     }
 
-    pub(crate) fn number(&mut self, width: u32, value: u16) -> Result<(), AllocError>
-        requires { width ≤ 16 }
-    {
+    pub(crate) fn number(&mut self, width: u32, value: u16) -> Result<(), AllocError> {
         self.bits
-            .extend((0..width).rev().map(|i| value >> i & 1 == 1))
+            .extend((0..width).rev().map(|i| value.rotate_right(i) & 1 == 1))
     }
 
     // Numbers of 5 bits: setting numbers or values.
@@ -77,10 +73,8 @@ impl FileBits {
     }
 
     // A table up to its row count.
-    pub(crate) fn table(&mut self, scope: &[u16], rows: u16) -> Result<(), AllocError>
-        requires { length scope.now < 16 }
-    {
-        self.number(4, scope.len() as u16)?;
+    pub(crate) fn table(&mut self, scope: &[u16], rows: u16) -> Result<(), AllocError> {
+        self.number(4, (scope.len() & 15) as u16)?;
         self.numbers(scope)?;
         self.number(10, rows)
     }

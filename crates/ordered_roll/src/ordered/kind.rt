@@ -52,6 +52,7 @@ impl Roll for OrderedRoll {
         true
     }
 
+    // The counts are told alike by both kinds: each is a struct of its own, whose invariant ties them to its own parts.
     fn size(&self) -> u32 {
         self.size
     }

@@ -58,6 +58,7 @@ impl Roll for PackedRoll {
         true
     }
 
+    // The counts are told alike by both kinds: each is a struct of its own, whose invariant ties them to its own parts.
     fn size(&self) -> u32 {
         self.size
     }
@@ -78,7 +79,8 @@ impl Roll for PackedRoll {
         32 - self.kept
     }
 
-    // Goes by words, from the place's own bit on in its word and from bit 0 on in the words after it.
+    // Goes by words, from the place's own bit on in its word and from bit 0 on in the words after it. It counts the
+    // words, since the number of the word is part of the answer.
     fn first_from(&self, place: u32) -> Option<u32> {
         for w in place / 64..self.size.div_ceil(64) {
             let from = place.saturating_sub(w * 64);

@@ -1,4 +1,4 @@
-ghost use Rattle.std.specs.Prelude.{◌≡◌, ◌*◌, ◌<◌, ◌≤◌, length, slice_index};
+ghost use Rattle.std.specs.Prelude.{◌≡◌, ◌*◌, ◌<◌, ◌≤◌, length, slice_index, take};
 ghost use Rattle.plan_format.specs.Bits.{bits};
 ghost use Rattle.plan_format.specs.Reading.{number as number_of, number_below, padded, ranged as ranged_of};
 ghost use Rattle.plan_reader.specs.Outcomes.{Reads};
@@ -6,14 +6,19 @@ ghost use Rattle.plan_reader.specs.Outcomes.{Reads};
 use crate::reader::Reader;
 use refusal::Refusal;
 
+// More bytes than any plan file has. Nothing depends on the rest of a file, as `plan_format::reads_no_further` says.
+const MOST: usize = 65_536;
+
 impl<'a> Reader<'a> {
-    // At the front of a file.
+    // At the front of a file, of which it holds the first `MOST` bytes.
     pub(crate) fn new(file: &'a [u8]) -> Self
-        requires { length file.now ≤ 65536 }
-        ensures file { result.file.now ≡ file.now }
+        ensures front { result.file.now ≡ take MOST file.now }
         ensures place { result.place ≡ 0 }
     {
-        Reader { file, place: 0 }
+        Reader {
+            file: &file[..MOST.min(file.len())],
+            place: 0,
+        }
     }
 
     pub(crate) fn place(&self) -> u32
