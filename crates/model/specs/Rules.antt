@@ -1,13 +1,11 @@
 -- The rules that a plan keeps.
 use Rattle.std.specs.Prelude.{◌≡◌, ℕ, ◌<◌, ◌≤◌, ◌⊎◌, List, [], ◌∷◌, length, slice_index}
-use Rattle.std.specs.List.{All, AllZip, Any, Contains}
+use Rattle.std.specs.List.{All, AllAdjacentBelow, AllZip, Any, Contains}
 use Rattle.model.specs.Plan.{Plan, Table, height, row_count}
 
 -- each element but the first is above the one before it
 abbrev pub Ascending : {A : Type 0} → (A → A → Type 0) → List A → Type 0
-Ascending below [] = Unit {0}
-Ascending below (x ∷ []) = Unit {0}
-Ascending below (x ∷ y ∷ zs) = below x y × Ascending below (y ∷ zs)
+Ascending below xs = AllAdjacentBelow below xs (length xs)
 
 -- a row is below another: by the first value, then the second, and so on
 abbrev pub Below : List ℕ → List ℕ → Type 0
