@@ -1,5 +1,5 @@
 -- Bits, and numbers spelt in bits.
-use Rattle.std.proofs.Common.{◌≡◌, ℕ, zero, suc, ◌+◌, ◌-◌, ◌*◌, ◌/◌, ◌%◌, ◌^◌, ◌<◌, ◌≤◌, List, [], ◌∷◌, ◌++◌, length, get_or, refl, ap, ◌∙◌, pow-suc, arith}
+use Rattle.std.proofs.Common.{◌≡◌, ℕ, zero, suc, ◌+◌, ◌-◌, ◌*◌, ◌/◌, ◌%◌, ◌^◌, ◌<◌, ◌≤◌, List, [], ◌∷◌, ◌++◌, length, get_or, refl, ap, pow-suc, arith}
 use Rattle.std.specs.List.{All}
 use Rattle.std.proofs.lemmas.List.{get_or_append_left, get_or-append-add, get_or_past}
 use Rattle.std.proofs.lemmas.List.Elements.{All-nil, All-cons, All-append}
@@ -18,19 +18,14 @@ length-bits [] = refl
 length-bits (b ∷ bs) = omega (arith, length-bits bs)
 
 spell-at : (w n i : ℕ) → i < w → get_or (spell w n) i 0 ≡ n / 2 ^ (w - 1 - i) % 2
-spell-at zero n i h = omega arith
-spell-at (suc w) n zero h =
-    let e : suc w - 1 - 0 ≡ w = omega arith in rw e
-spell-at (suc w) n (suc i) h =
-    let e : suc w - 1 - suc i ≡ w - 1 - i = omega arith in rw e (spell-at w n i (omega arith))
+spell-at zero n i h = grind arith
+spell-at (suc w) n zero h = grind arith
+spell-at (suc w) n (suc i) h = grind (arith, spell-at w n i)
 
 pub bits_at : (file : List ℕ) (q r : ℕ) → r < 8 → q < length file → get_or (bits file) (8 * q + r) 0 ≡ get_or file q 0 / 2 ^ (7 - r) % 2
-bits_at [] q r h l = omega arith
-bits_at (b ∷ bs) zero r h l =
-    let e : 8 * 0 + r ≡ r = omega arith in rw e (get_or_append_left (spell 8 b) (bits bs) 0 r h ∙ spell-at 8 b r h)
-bits_at (b ∷ bs) (suc q) r h l =
-    let e : 8 * suc q + r ≡ length (spell 8 b) + (8 * q + r) = omega arith in
-    rw e (get_or-append-add (spell 8 b) (bits bs) (8 * q + r) 0 ∙ bits_at bs q r h (omega arith))
+bits_at [] q r h l = grind arith
+bits_at (b ∷ bs) zero r h l = grind (arith, get_or_append_left (spell 8 b) (bits bs) 0 r, spell-at 8 b r)
+bits_at (b ∷ bs) (suc q) r h l = grind (arith, get_or-append-add (spell 8 b) (bits bs) (8 * q + r) 0, bits_at bs q r)
 
 -- each is 0 or 1
 pub record Two (b : List ℕ) : Type 0 where

@@ -1,13 +1,13 @@
 -- A reading sees only the bits that it moves over, so that a long file may be cut.
-use Rattle.std.proofs.Common.{◌≡◌, ℕ, zero, suc, ◌+◌, ◌-◌, ◌*◌, ◌/◌, ◌%◌, ◌^◌, ◌<◌, ◌≤◌, Bool, ◌&&◌, ltb, leb, List, [], ◌∷◌, ◌++◌, length, get_or, take, drop, sym, refl, ap, ◌∙◌, mul-suc, arith}
+use Rattle.std.proofs.Common.{◌≡◌, ℕ, zero, suc, ◌+◌, ◌*◌, ◌/◌, ◌%◌, ◌<◌, ◌≤◌, Bool, ◌&&◌, ltb, leb, List, [], ◌∷◌, ◌++◌, length, get_or, take, sym, refl, ap, ◌∙◌, mul-suc, arith}
 use Rattle.std.proofs.lemmas.List.{get_or-take, length-take-le}
-use Rattle.std.proofs.lemmas.Bool.{and_left, le-ltb}
+use Rattle.std.proofs.lemmas.Bool.Decides.{nat_tests}
 use Rattle.refusal.specs.declared.reason.Refusal.{Refusal}
 use Rattle.refusal.specs.declared.reason.Refusal.TheVariants.{OutOfRange, NotAscending, TooManyRows, Unnamed, NotPadded}
 use Rattle.model.specs.Plan.{Plan, Table, rows_in}
 use Rattle.model.specs.Tests.{below, all_named}
 use Rattle.plan_format.specs.Bits.{bits, number_at}
-use Rattle.plan_format.specs.Reading.{Read, got, refused, ◌then◌, given, repeat, may_follow, number, ranged, number_below, header, setting, row, table, body, padded, zeros, read}
+use Rattle.plan_format.specs.Reading.{Read, got, refused, ◌then◌, given, repeat, may_follow, number, ranged, number_below, header, setting, row, table, body, padded, read}
 use Rattle.plan_format.proofs.BitLaws.{bits_at, length-bits, number_got}
 use Rattle.plan_format.proofs.Exactly.{then_got, given_got, got_at}
 use Rattle.plan_format.proofs.Parts.{ranged_within, repeat-length}
@@ -64,7 +64,7 @@ module _ (b c : List ℕ) (k : ℕ) (long_b : k ≤ length b) (long_c : k ≤ le
   number_alike : (w : ℕ) → Alike k w (number b w) (number c w)
   number_alike w = record {
     same = λ p h. number_got c w p (omega arith) ∙ ap (λ n. got n (p + w)) (number_at_same p w h) ∙ sym (number_got b w p (omega arith));
-    moves = λ p a q e. omega (arith, got_at (number_at b p w) a (p + w) q (given_got (leb (p + w) (length b)) _ _ a q e).1);
+    moves = λ p a q e. grind arith;
   }
 
   ranged_alike : (w lo hi : ℕ) → Alike k w (ranged b w lo hi) (ranged c w lo hi)
@@ -107,9 +107,7 @@ module _ (b c : List ℕ) (k : ℕ) (long_b : k ≤ length b) (long_c : k ≤ le
 
   -- whatever follows is no padding where more than a byte does
   unpadded : (q : ℕ) → q + 8 ≤ k → padded c q ≡ padded b q
-  unpadded q h =
-      and_left (ltb (length c - q) 8) (zeros (drop q c)) (le-ltb (length c - q) 8 (omega arith))
-      ∙ sym (and_left (ltb (length b - q) 8) (zeros (drop q b)) (le-ltb (length b - q) 8 (omega arith)))
+  unpadded q h = grind (arith, nat_tests)
 
   -- the end of a reading: names and padding
   abbrev ended : List ℕ → Plan → ℕ → Read Plan
@@ -124,11 +122,7 @@ module _ (b c : List ℕ) (k : ℕ) (long_b : k ≤ length b) (long_c : k ≤ le
 -- the bits of the first n bytes
 front-bits : (file : List ℕ) (n i : ℕ) → n ≤ length file → i < 8 * n → get_or (bits (take n file)) i 0 ≡ get_or (bits file) i 0
 front-bits file n i l h =
-    let e : 8 * (i / 8) + i % 8 ≡ i = omega arith in
-    let x = bits_at (take n file) (i / 8) (i % 8) (omega arith) (omega (arith, length-take-le n file l)) in
-    let y = bits_at file (i / 8) (i % 8) (omega arith) (omega arith) in
-    let g = get_or-take n file (i / 8) 0 (omega arith) in
-    rw e at (x ∙ ap (λ v. v / 2 ^ (7 - i % 8) % 2) g ∙ sym y)
+    grind (arith, bits_at (take n file) (i / 8) (i % 8), bits_at file (i / 8) (i % 8), get_or-take n file (i / 8) 0, length-take-le n file)
 
 pub cut_long : (file : List ℕ) → 65536 ≤ length file → read (take 65536 file) ≡ read file
 cut_long file long =

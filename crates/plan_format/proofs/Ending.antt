@@ -1,13 +1,14 @@
 -- The padding after bits that stand at the front of a list.
-use Rattle.std.proofs.Common.{◌≡◌, ℕ, zero, suc, ◌-◌, ◌<◌, true, eqb, ltb, List, [], ◌∷◌, ◌++◌, length, drop, replicate, sym, refl, ap, ◌∙◌, arith}
+use Rattle.std.proofs.Common.{◌≡◌, ℕ, zero, suc, ◌-◌, ◌<◌, true, ltb, List, [], ◌∷◌, ◌++◌, length, drop, replicate, sym, refl, ap, ◌∙◌, arith}
 use Rattle.std.proofs.lemmas.List.{length-drop, length-replicate, drop_at}
-use Rattle.std.proofs.lemmas.Bool.{ltb-true, lt-ltb, eqb-true, and_parts, and_from}
+use Rattle.std.proofs.lemmas.Bool.Decides.{nat_tests}
+use Rattle.std.proofs.lemmas.Bool.{ltb-true, lt-ltb, and_parts, and_from}
 use Rattle.plan_format.specs.Reading.{zeros, padded}
 use Rattle.plan_format.proofs.Exactly.{Stands}
 
 zeros_all : (xs : List ℕ) → zeros xs ≡ true → xs ≡ replicate (length xs) 0
 zeros_all [] h = refl
-zeros_all (x ∷ xs) h = let a = and_parts (eqb x 0) (zeros xs) h in let e = eqb-true x 0 a.0 in let r = zeros_all xs a.1 in cc
+zeros_all (x ∷ xs) h = grind (arith, nat_tests, zeros_all xs)
 
 zeros_only : (k : ℕ) → zeros (replicate k 0) ≡ true
 zeros_only zero = refl

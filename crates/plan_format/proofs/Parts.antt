@@ -1,9 +1,9 @@
 -- What is known of what was read.
-use Rattle.std.proofs.Common.{◌≡◌, ℕ, zero, suc, ◌≤◌, ◌&&◌, leb, List, [], ◌∷◌, ◌++◌, length, ap, arith}
+use Rattle.std.proofs.Common.{◌≡◌, ℕ, zero, suc, ◌≤◌, List, [], ◌∷◌, ◌++◌, length, ap, arith}
 use Rattle.std.proofs.lemmas.List.{length_push}
-use Rattle.std.proofs.lemmas.Bool.{leb-true, and_parts}
-use Rattle.plan_format.specs.Reading.{Read, got, repeat, number, ranged}
-use Rattle.plan_format.proofs.Exactly.{then_got, given_got, got_is}
+use Rattle.std.proofs.lemmas.Bool.Decides.{nat_tests}
+use Rattle.plan_format.specs.Reading.{Read, got, repeat, ranged}
+use Rattle.plan_format.proofs.Exactly.{then_got, got_is}
 
 -- n readings give n items
 pub repeat-length : {A : Type 0} (one : List A → ℕ → Read A) (n p : ℕ) (xs : List A) (q : ℕ) → repeat one n p ≡ got xs q → length xs ≡ n
@@ -15,8 +15,4 @@ repeat-length one (suc n) p xs q e =
 
 -- a number in a range is in that range
 pub ranged_within : (b : List ℕ) (w lo hi p v q : ℕ) → ranged b w lo hi p ≡ got v q → (lo ≤ v) × (v ≤ hi)
-ranged_within b w lo hi p v q e =
-    let t = then_got (number b w p) _ v q e in
-    let g = given_got (leb lo t.0 && leb t.0 hi) _ _ v q t.3 in
-    let a = and_parts (leb lo t.0) (leb t.0 hi) g.0 in
-    omega (arith, leb-true lo t.0 a.0, leb-true t.0 hi a.1, got_is t.0 v t.1 q g.1)
+ranged_within b w lo hi p v q e = grind (arith, nat_tests)

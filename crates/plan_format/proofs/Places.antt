@@ -1,7 +1,6 @@
 -- Readings stay in the file: they end, and are refused, at a place within it.
-use Rattle.std.proofs.Common.{◌≡◌, ℕ, zero, suc, ◌+◌, ◌*◌, ◌≤◌, Bool, true, false, ◌&&◌, ltb, leb, List, [], ◌∷◌, ◌++◌, length, get_or, Some, refl, subst, arith}
+use Rattle.std.proofs.Common.{◌≡◌, ℕ, zero, suc, ◌+◌, ◌*◌, ◌≤◌, Bool, true, false, ◌&&◌, ltb, leb, List, [], ◌∷◌, ◌++◌, length, get_or, refl, subst, arith}
 use Rattle.std.proofs.lemmas.Bool.{leb-true}
-use Rattle.refusal.specs.Refusals.{number_of, place_of}
 use Rattle.refusal.specs.declared.reason.Refusal.{Refusal}
 use Rattle.refusal.specs.declared.reason.Refusal.TheVariants.{CutShort, OutOfRange, NotAscending, TooManyRows, Unnamed, NotPadded}
 use Rattle.model.specs.Plan.{Plan, Table, rows_in}
@@ -50,46 +49,36 @@ module _ {file : List ℕ} where
   repeat_stays s zero = got_stays []
   repeat_stays s (suc n) = then_stays (repeat_stays s n) (λ _ xs _. then_stays (s xs) (λ _ x _. got_stays (xs ++ x ∷ [])))
 
-  -- a refusal with this place
-  placed : (e : Refusal) (p : ℕ) → place_of e ≡ Some p → 1 ≤ number_of e → number_of e ≤ 6 → p ≤ 8 * length file → Placed file e
-  placed e p at some few i = record { some = some; few = few; place = (p, at, i) }
-
-  out : (p : ℕ) → p ≤ 8 * length file → Placed file (OutOfRange p)
-  out p = placed (OutOfRange p) p refl (omega arith) (omega arith)
-
-  down : (p : ℕ) → p ≤ 8 * length file → Placed file (NotAscending p)
-  down p = placed (NotAscending p) p refl (omega arith) (omega arith)
-
 module _ (file : List ℕ) where
   number_stays : (w : ℕ) → Stays file (number (bits file) w)
   number_stays w = record { at = λ p i. by p i (leb (p + w) (length (bits file))) refl }
     where
       by : (p : ℕ) → p ≤ 8 * length file → (t : Bool) → leb (p + w) (length (bits file)) ≡ t → Within file (given t (CutShort p) (got (number_at (bits file) p w) (p + w)))
       by p i true e = omega (arith, leb-true (p + w) (length (bits file)) e, length-bits file)
-      by p i false e = placed (CutShort p) p refl (omega arith) (omega arith) i
+      by p i false e = search arith
 
   ranged_stays : (w lo hi : ℕ) → Stays file (ranged (bits file) w lo hi)
-  ranged_stays w lo hi = tested_stays (λ v. leb lo v && leb v hi) OutOfRange out (number_stays w)
+  ranged_stays w lo hi = tested_stays (λ v. leb lo v && leb v hi) OutOfRange (λ p i. search arith) (number_stays w)
 
   below_stays : (n : ℕ) → Stays file (number_below (bits file) n)
-  below_stays n = tested_stays (λ v. ltb v n) OutOfRange out (number_stays 5)
+  below_stays n = tested_stays (λ v. ltb v n) OutOfRange (λ p i. search arith) (number_stays 5)
 
   header_stays : Stays file (header (bits file))
   header_stays = then_stays (ranged_stays 8 1 1) (λ _ _ _. then_stays (ranged_stays 6 1 32) (λ _ n _. repeat_stays (λ _. ranged_stays 6 1 32) n))
 
   setting_stays : (n : ℕ) (before : List ℕ) → Stays file (setting (bits file) n before)
-  setting_stays n before = tested_stays (may_follow ltb before) NotAscending down (below_stays n)
+  setting_stays n before = tested_stays (may_follow ltb before) NotAscending (λ p i. search arith) (below_stays n)
 
   row_stays : (counts scope : List ℕ) (before : List (List ℕ)) → Stays file (row (bits file) counts scope before)
   row_stays counts scope before =
-      tested_stays (may_follow below before) NotAscending down (repeat_stays (λ vs. below_stays (get_or counts (get_or scope (length vs) 0) 0)) (length scope))
+      tested_stays (may_follow below before) NotAscending (λ p i. search arith) (repeat_stays (λ vs. below_stays (get_or counts (get_or scope (length vs) 0) 0)) (length scope))
 
   table_stays : (counts : List ℕ) (before : List Table) → Stays file (table (bits file) counts before)
   table_stays counts before =
       then_stays (ranged_stays 4 1 8)
       (λ _ w _. then_stays (repeat_stays (setting_stays (length counts)) w)
       (λ _ scope _. then_stays (ranged_stays 10 0 512)
-      (λ r n i. given_stays (leb (rows_in before + n) 4096) (TooManyRows r) (placed (TooManyRows r) r refl (omega arith) (omega arith) i)
+      (λ r n i. given_stays (leb (rows_in before + n) 4096) (TooManyRows r) (search arith)
       (then_stays (repeat_stays (row_stays counts scope) n) (λ _ rows _. got_stays (record { scope = scope; rows = rows }))))))
 
   body_stays : Stays file (body (bits file))
@@ -101,8 +90,8 @@ module _ (file : List ℕ) where
   read_stays : Within file (read file)
   read_stays =
       then_within file (body (bits file) 0) _ (body_stays.at 0 (omega arith))
-      (λ p q i. given_within file (all_named (length p.counts) p.tables) (Unnamed q) _ (placed (Unnamed q) q refl (omega arith) (omega arith) i)
-      (given_within file (padded (bits file) q) (NotPadded q) (got p q) (placed (NotPadded q) q refl (omega arith) (omega arith) i) i))
+      (λ p q i. given_within file (all_named (length p.counts) p.tables) (Unnamed q) _ (search arith)
+      (given_within file (padded (bits file) q) (NotPadded q) (got p q) (search arith) i))
 
 pub refusals_placed : RefusalsPlaced
 refusals_placed file e h = subst (λ (r : Read Plan). Within file r) h (read_stays file)

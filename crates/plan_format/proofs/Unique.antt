@@ -74,8 +74,4 @@ filled s two =
     (r.0, r.1, (k, omega arith, r.2))
 
 pub same_bits : (s xs ys : List ℕ) (k m : ℕ) → k < 8 → m < 8 → bits xs ≡ s ++ replicate k 0 → bits ys ≡ s ++ replicate m 0 → bits xs ≡ bits ys
-same_bits s xs ys k m g h d e =
-    let i = simp (length-bits, length-append, length-replicate) at (ap length d) in
-    let j = simp (length-bits, length-append, length-replicate) at (ap length e) in
-    let z : k ≡ m = omega arith in
-    d ∙ ap (λ i. s ++ replicate i 0) z ∙ sym e
+same_bits s xs ys k m g h d e = grind (arith, length-bits, length-append {A = ℕ}, length-replicate {A = ℕ})
