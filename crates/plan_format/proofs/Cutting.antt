@@ -1,6 +1,7 @@
 -- A reading sees only the bits that it moves over, so that a long file may be cut.
-use Rattle.std.proofs.Common.{◌≡◌, ℕ, zero, suc, ◌+◌, ◌*◌, ◌/◌, ◌%◌, ◌<◌, ◌≤◌, Bool, ◌&&◌, ltb, leb, List, [], ◌∷◌, ◌++◌, length, get_or, take, sym, refl, ap, ◌∙◌, mul-suc, arith}
-use Rattle.std.proofs.lemmas.List.{get_or-take, length-take-le}
+use Rattle.std.proofs.Common.{◌≡◌, ℕ, zero, suc, ◌+◌, ◌*◌, ◌/◌, ◌%◌, ◌<◌, ◌≤◌, Bool, ◌&&◌, ltb, leb, List, [], ◌∷◌, ◌++◌, length, get_or, take, sym, refl, ap, ◌∙◌, inl, inr, mul-suc, arith}
+use Rattle.std.proofs.lemmas.List.{get_or-take, length-take-le, take_all}
+use Rattle.std.proofs.lemmas.Bool.{cases_lt}
 use Rattle.std.proofs.lemmas.Bool.Decides.{nat_tests}
 use Rattle.refusal.specs.declared.reason.Refusal.{Refusal}
 use Rattle.refusal.specs.declared.reason.Refusal.TheVariants.{OutOfRange, NotAscending, TooManyRows, Unnamed, NotPadded}
@@ -8,6 +9,7 @@ use Rattle.model.specs.Plan.{Plan, Table, rows_in}
 use Rattle.model.specs.Tests.{below, all_named}
 use Rattle.plan_format.specs.Bits.{bits, number_at}
 use Rattle.plan_format.specs.Reading.{Read, got, refused, ◌then◌, given, repeat, may_follow, number, ranged, number_below, header, setting, row, table, body, padded, read}
+use Rattle.plan_format.specs.Laws.{ReadsNoFurther}
 use Rattle.plan_format.proofs.BitLaws.{bits_at, length-bits, number_got}
 use Rattle.plan_format.proofs.Exactly.{then_got, given_got, got_at}
 use Rattle.plan_format.proofs.Parts.{ranged_within, repeat-length}
@@ -124,7 +126,10 @@ front-bits : (file : List ℕ) (n i : ℕ) → n ≤ length file → i < 8 * n �
 front-bits file n i l h =
     grind (arith, bits_at (take n file) (i / 8) (i % 8), bits_at file (i / 8) (i % 8), get_or-take n file (i / 8) 0, length-take-le n file)
 
-pub cut_long : (file : List ℕ) → 65536 ≤ length file → read (take 65536 file) ≡ read file
+cut_long : (file : List ℕ) → 65536 ≤ length file → read (take 65536 file) ≡ read file
 cut_long file long =
     read_alike (bits file) (bits (take 65536 file)) 524288 (omega (arith, length-bits file)) (omega (arith, length-bits (take 65536 file), length-take-le 65536 file long))
     (λ i h. front-bits file 65536 i long h) (omega arith)
+
+pub reads_no_further : ReadsNoFurther
+reads_no_further file = elim (cases_lt (length file) 65536) [ inl h ↦ ap read (take_all 65536 file (omega arith)) | inr h ↦ cut_long file h ]
