@@ -53,14 +53,15 @@ module _ (counts : List ℕ) where
   table_words before t = (
     (λ h.
         let s = ascending_from Decides-ltb (λ s. s < length counts) t.scope h.1.0.1 in
-        let r = ascending_from below_decides (Fits counts t.scope) t.rows h.1.1.1.1.1.1 in (
-          record { wide = h.0.0; narrow = h.0.1; in_plan = s.0; scope_ascends = s.1; low = h.1.1.0.1; rows_fit = r.0; rows_ascend = r.1 },
-          leb-true (rows_in before + height t) 4096 h.1.1.1.0,
-        )),
+        let r = ascending_from below_decides (Fits counts t.scope) t.rows h.1.1.1.1.1.1 in
+        let f = leb-true (rows_in before + height t) 4096 h.1.1.1.0 in
+        assumption),
     (λ h.
         let s = ascending_to Decides-ltb (λ s. s < length counts) t.scope h.0.in_plan h.0.scope_ascends in
         let r = ascending_to below_decides (Fits counts t.scope) t.rows h.0.rows_fit h.0.rows_ascend in
-        ((h.0.wide, h.0.narrow), ((refl, s), ((omega arith, h.0.low), (le-leb (rows_in before + height t) 4096 h.1, (refl, (refl, r))))))),
+        let f = le-leb (rows_in before + height t) 4096 h.1 in
+        let z : 0 ≤ height t = omega arith in
+        assumption),
   )
 
 module _ (file counts : List ℕ) (few : length counts ≤ 32) (each : All InCount counts) where

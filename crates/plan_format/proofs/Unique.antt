@@ -11,7 +11,7 @@ use Rattle.plan_format.specs.Reading.{Read, got, refused, read}
 use Rattle.plan_format.specs.File.{spell_table, spell_plan, FileOf}
 use Rattle.plan_format.specs.Laws.{Bytes, RefusesTheRest}
 use Rattle.plan_format.proofs.BitLaws.{length-bits, number_at-below, Two, two_none, two_join, two_spell, two_at}
-use Rattle.plan_format.proofs.Exactly.{number_stands, number_reads}
+use Rattle.plan_format.proofs.Exactly.{number_stands}
 use Rattle.plan_format.proofs.Whole.{reads_exactly}
 
 pub file_reads : (file : List ℕ) (p : Plan) → Valid p → FileOf p file → read file ≡ got p (length (spell_plan p))
@@ -25,16 +25,16 @@ refuses_the_rest file = ((λ e r p v f. let g = file_reads file p v f in cc), by
     by (refused x) e h = (x, e)
 
 -- bits give back their bytes
+first_byte : (x y : ℕ) (xs ys : List ℕ) → x < 256 → y < 256 → bits (x ∷ xs) ≡ bits (y ∷ ys) → (x ≡ y) × (bits xs ≡ bits ys)
+first_byte x y xs ys g h e = grind arith
+
 pub bits_bytes : (xs ys : List ℕ) → Bytes xs → Bytes ys → bits xs ≡ bits ys → xs ≡ ys
 bits_bytes [] [] g h e = refl
 bits_bytes [] (y ∷ ys) g h e = cc
 bits_bytes (x ∷ xs) [] g h e = cc
 bits_bytes (x ∷ xs) (y ∷ ys) g h e =
-    let b = bits (x ∷ xs) in
-    let k : bits xs ≡ bits ys = ap (drop 8) e in
-    let i = number_reads b 0 8 x 8 (g 0 0 (omega arith)) (record { to = refl; rest = refl }) in
-    let j = number_reads b 0 8 y 8 (h 0 0 (omega arith)) (record { to = refl; rest = e ∙ ap (λ t. spell 8 y ++ t) (sym k) }) in
-    let r = bits_bytes xs ys (All-tail (λ n. n < 256) x xs g) (All-tail (λ n. n < 256) y ys h) k in
+    let first = first_byte x y xs ys (g 0 0 (omega arith)) (h 0 0 (omega arith)) e in
+    let rest = bits_bytes xs ys (All-tail (λ n. n < 256) x xs g) (All-tail (λ n. n < 256) y ys h) first.1 in
     cc
 
 -- whole bytes of bits

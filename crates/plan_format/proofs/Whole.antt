@@ -1,16 +1,15 @@
 -- Reading a whole file is exact.
-use Rattle.std.proofs.Common.{◌≡◌, ℕ, ◌≤◌, true, List, ◌++◌, length, sym, refl, ap, ◌∙◌, subst, arith}
+use Rattle.std.proofs.Common.{◌≡◌, ℕ, ◌≤◌, true, List, ◌++◌, length, sym, refl, ap, arith}
 use Rattle.std.specs.List.{All, flat_map}
-use Rattle.refusal.specs.declared.reason.Refusal.TheVariants.{Unnamed, NotPadded}
 use Rattle.model.specs.Plan.{Plan}
 use Rattle.model.specs.Rules.{Valid}
 use Rattle.model.specs.Tests.{all_named}
 use Rattle.model.proofs.Deciding.{all_named_decides}
 use Rattle.plan_format.specs.Bits.{bits, spell}
-use Rattle.plan_format.specs.Reading.{got, ◌then◌, repeat, ranged, table, padded, body}
+use Rattle.plan_format.specs.Reading.{got, ◌then◌, repeat, ranged, table, padded, body, read}
 use Rattle.plan_format.specs.File.{spell_table, spell_plan}
 use Rattle.plan_format.specs.Laws.{ReadsExactly}
-use Rattle.plan_format.proofs.Exactly.{then_got, given_got, got_is, got_at, Exact, Chain, then_exact, made_exact, repeat_exact, ranged_exact}
+use Rattle.plan_format.proofs.Exactly.{Exact, Chain, then_exact, made_exact, repeat_exact, ranged_exact}
 use Rattle.plan_format.proofs.Chains.{GoodTable, tables_from, tables_to}
 use Rattle.plan_format.proofs.Header.{InCount, GoodCounts, header_exact}
 use Rattle.plan_format.proofs.Tables.{table_exact}
@@ -48,35 +47,24 @@ plan_words : (p : Plan)
 plan_words p = (
   (λ h.
       let t = tables_from p.counts p.tables h.0.1.1.1.1 in
-      record {
-        some_settings = h.0.0.0;
-        few_settings = h.0.0.1;
-        values = h.0.0.2;
-        some_tables = h.0.1.0.0;
-        few_tables = h.0.1.0.1;
-        tables_keep = t.0;
-        few_rows = t.1;
-        named = (all_named_decides (length p.counts) p.tables).0 h.1;
-      }),
-  (λ v. (
-    (
-      (v.some_settings, v.few_settings, v.values),
-      ((v.some_tables, v.few_tables), (refl, (refl, tables_to p.counts p.tables v.tables_keep v.few_rows))),
-    ),
-    (all_named_decides (length p.counts) p.tables).1 v.named,
-  )),
+      let n = (all_named_decides (length p.counts) p.tables).0 h.1 in
+      assumption),
+  (λ v.
+      let t = tables_to p.counts p.tables v.tables_keep v.few_rows in
+      let n = (all_named_decides (length p.counts) p.tables).1 v.named in
+      assumption),
 )
+
+read_parts : (file : List ℕ) (p : Plan) (q : ℕ)
+    → read file ≡ got p q → (body (bits file) 0 ≡ got p q) × (all_named (length p.counts) p.tables ≡ true) × (padded (bits file) q ≡ true)
+read_parts file p q e = grind arith
 
 pub reads_exactly : ReadsExactly
 reads_exactly file p q = (
   (λ e.
-      let t = then_got (body (bits file) 0) _ p q e in
-      let g = given_got (all_named (length t.0.counts) t.0.tables) (Unnamed t.1) _ p q t.3 in
-      let h = given_got (padded (bits file) t.1) (NotPadded t.1) _ p q g.1 in
-      let r = (body_exact file).reads 0 p q (t.2 ∙ h.1) in
-      let n : all_named (length p.counts) p.tables ≡ true = subst (λ (x : Plan). all_named (length x.counts) x.tables ≡ true) (got_is t.0 p t.1 q h.1) g.0 in
-      let d : padded (bits file) q ≡ true = subst (λ k. padded (bits file) k ≡ true) (got_at t.0 p t.1 q h.1) h.0 in
-      ((plan_words p).0 (r.0, n), padding_from (bits file) (spell_plan p) q r.1 d, omega (arith, r.1.to))),
+      let t = read_parts file p q e in
+      let r = (body_exact file).reads 0 p q t.0 in
+      ((plan_words p).0 (r.0, t.1), padding_from (bits file) (spell_plan p) q r.1 t.2, omega (arith, r.1.to))),
   (λ h.
       let v = (plan_words p).1 h.0 in
       let d = padding_to (bits file) (spell_plan p) q h.1.0 h.1.1 h.1.2 h.2 in
