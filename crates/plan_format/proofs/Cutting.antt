@@ -115,7 +115,7 @@ module _ (b c : List ℕ) (k : ℕ) (long_b : k ≤ length b) (long_c : k ≤ le
   abbrev ended : List ℕ → Plan → ℕ → Read Plan
   ended b p q = given (all_named (length p.counts) p.tables) (Unnamed q) (given (padded b q) (NotPadded q) (got p q))
 
-  pub read_alike : 328763 ≤ k → (body c 0 then ended c) ≡ (body b 0 then ended b)
+  read_alike : 328763 ≤ k → (body c 0 then ended c) ≡ (body b 0 then ended b)
   read_alike l =
       ap (λ (r : Read Plan). r then ended c) (body_alike.same 0 (omega arith))
       ∙ then_same (body b 0) (ended b) (ended c)
