@@ -1,55 +1,33 @@
 -- The tests decide the rules that they test.
-use Rattle.std.proofs.Common.{◌≡◌, ℕ, zero, suc, ◌<◌, Bool, true, false, ◌&&◌, eqb, ltb, List, [], ◌∷◌, sym, refl, inl, inr, arith}
-use Rattle.std.proofs.lemmas.Bool.{and_parts, and_from, or_cases, or_left, or_right, eqb-true, eq-eqb, ltb-true, lt-ltb, cases_lt, both_ways}
+use Rattle.std.proofs.Common.{◌≡◌, ℕ, ◌<◌, ◌||◌, List, [], ◌∷◌, eqb, sym, refl, arith}
+use Rattle.std.proofs.Math.Bool.{and_comm}
+use Rattle.std.proofs.lemmas.Bool.Decides.{Decides-at, Decides-like, Decides-ltb, Decides-eqb, Decides-and, Decides-or, Decides-by_or, Decides-below_and}
+use Rattle.std.proofs.lemmas.List.Elements.{Decides-contains}
+use Rattle.std.proofs.lemmas.List.Folds.{Any-from_list_any, list_any-from_Any}
+use Rattle.std.proofs.lemmas.List.Recursion.{same_from_clauses}
+use Rattle.std.specs.Bool.{Decides}
+use Rattle.std.specs.List.{Any, list_any}
 use Rattle.model.specs.Plan.{Table}
-use Rattle.model.specs.Rules.{Any, Below, Names}
-use Rattle.model.specs.Tests.{any, all_below, below, names, all_named, Decides}
-
-no_test : {P : Type 0} → false ≡ true → P
-no_test e = absurd (both_ways true (sym e) refl)
-
-pub less_decides : (x y : ℕ) → Decides (ltb x y) (x < y)
-less_decides x y = (ltb-true x y, lt-ltb x y)
-
-pub equal_decides : (x y : ℕ) → Decides (eqb x y) (x ≡ y)
-equal_decides x y = (eqb-true x y, eq-eqb x y)
-
-pub any_decides : {A : Type 0} (test : A → Bool) (P : A → Type 0) → ((x : A) → Decides (test x) (P x)) → (xs : List A) → Decides (any test xs) (Any P xs)
-any_decides test P each [] = (no_test, absurd)
-any_decides test P each (x ∷ xs) =
-    let rest = any_decides test P each xs in (
-      (λ e. elim (or_cases (test x) (any test xs) e) [ inl h ↦ inl ((each x).0 h) | inr h ↦ inr (rest.0 h) ]),
-      (λ h. elim h [ inl k ↦ or_left _ _ ((each x).1 k) | inr k ↦ or_right _ _ (rest.1 k) ]),
-    )
-
-pub all_below_decides : (test : ℕ → Bool) (P : ℕ → Type 0) → ((k : ℕ) → Decides (test k) (P k)) → (n : ℕ) → Decides (all_below n test) ((k : ℕ) → k < n → P k)
-all_below_decides test P each zero = ((λ e k h. let z : ⊥ = omega arith in absurd z), (λ h. refl))
-all_below_decides test P each (suc n) =
-    let rest = all_below_decides test P each n in (
-      (λ e k h.
-          let a = and_parts (all_below n test) (test n) e in
-          elim (cases_lt k n) [ inl l ↦ rest.0 a.0 k l | inr l ↦ let i : k ≡ n = omega arith in rw i ((each n).0 a.1) ]),
-      (λ h. and_from _ _ (rest.1 (λ k l. h k (omega arith))) ((each n).1 (h n (omega arith)))),
-    )
+use Rattle.model.specs.Rules.{Below, Names}
+use Rattle.model.specs.Tests.{any, below, names, all_named}
 
 pub below_decides : (xs ys : List ℕ) → Decides (below xs ys) (Below xs ys)
-below_decides [] [] = (no_test, absurd)
-below_decides (x ∷ xs) [] = (no_test, absurd)
-below_decides [] (y ∷ ys) = ((λ e. tt), (λ h. refl))
-below_decides (x ∷ xs) (y ∷ ys) =
-    let rest = below_decides xs ys in (
-      (λ e. elim (or_cases (ltb x y) (eqb x y && below xs ys) e) [
-        | inl h ↦ inl (ltb-true x y h)
-        | inr h ↦ let a = and_parts (eqb x y) (below xs ys) h in inr (eqb-true x y a.0, rest.0 a.1)
-      ]),
-      (λ h. elim h [
-        | inl l ↦ or_left _ _ (lt-ltb x y l)
-        | inr l ↦ or_right _ _ (and_from _ _ (eq-eqb x y l.0) (rest.1 l.1))
-      ]),
-    )
+below_decides [] [] = grind arith
+below_decides (x ∷ xs) [] = grind arith
+below_decides [] (y ∷ ys) = grind arith
+below_decides (x ∷ xs) (y ∷ ys) = Decides-or _ _ (Decides-ltb x y) (Decides-and _ _ (Decides-eqb x y) (below_decides xs ys))
 
 names_decides : (s : ℕ) (t : Table) → Decides (names s t) (Names s t)
-names_decides s t = any_decides (eqb s) (λ r. s ≡ r) (equal_decides s) t.scope
+names_decides s t =
+    Decides-contains t.scope s (names s t)
+    (Decides-by_or (eqb s) (λ r. r ≡ s) (any (eqb s)) (λ r. Decides-like (eqb s r) sym sym (Decides-eqb s r)) refl (λ _ _. refl) t.scope)
+
+some_names_decides : (s : ℕ) (ts : List Table) → Decides (any (names s) ts) (Any (Names s) ts)
+some_names_decides s ts =
+    Decides-at (any (names s) ts) (list_any (names s) ts) (same_from_clauses (any (names s)) (list_any (names s)) (λ t b. names s t || b) refl (λ _ _. refl) (λ _ _. refl) ts) (
+      (λ e. let a = Any-from_list_any (names s) ts e in (a.0, a.1, a.2, a.3, (names_decides s a.1).0 a.4)),
+      (λ a. list_any-from_Any (names s) ts (a.0, a.1, a.2, a.3, (names_decides s a.1).1 a.4)),
+    )
 
 pub all_named_decides : (n : ℕ) (ts : List Table) → Decides (all_named n ts) ((s : ℕ) → s < n → Any (Names s) ts)
-all_named_decides n ts = all_below_decides (λ s. any (names s) ts) (λ s. Any (Names s) ts) (λ s. any_decides (names s) (Names s) (names_decides s) ts) n
+all_named_decides n ts = Decides-below_and (λ s. any (names s) ts) (λ s. Any (Names s) ts) (λ n. all_named n ts) (λ s. some_names_decides s ts) refl (λ n. and_comm (all_named n ts) (any (names n) ts)) n

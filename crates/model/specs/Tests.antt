@@ -1,7 +1,9 @@
 -- Those rules that are tested where a plan is read, as tests; and the law that the tests decide them.
-use Rattle.std.specs.Prelude.{◌≡◌, ℕ, zero, suc, ◌<◌, Bool, true, false, ◌&&◌, ◌||◌, List, [], ◌∷◌, ◌==◌, nat_eq, nat_lt}
+use Rattle.std.specs.Prelude.{ℕ, zero, suc, ◌<◌, Bool, true, false, ◌&&◌, ◌||◌, List, [], ◌∷◌, ◌==◌, nat_eq, nat_lt}
+use Rattle.std.specs.Bool.{Decides}
+use Rattle.std.specs.List.{Any}
 use Rattle.model.specs.Plan.{Table}
-use Rattle.model.specs.Rules.{Any, Below, Names}
+use Rattle.model.specs.Rules.{Below, Names}
 
 -- some element of a list passes
 abbrev pub any : {A : Type 0} → (A → Bool) → List A → Bool
@@ -28,10 +30,7 @@ names s t = any (nat_eq s) t.scope
 abbrev pub all_named : ℕ → List Table → Bool
 all_named n ts = all_below n (λ s. any (names s) ts)
 
--- a test decides a fact: it passes exactly where the fact holds
-abbrev pub Decides : Bool → Type 0 → Type 0
-Decides test fact = (test ≡ true → fact) × (fact → test ≡ true)
-
+-- each test passes exactly where its rule holds
 pub record TestsDecide : Type 0 where
   pub rows : (xs ys : List ℕ) → Decides (below xs ys) (Below xs ys)
   pub settings : (n : ℕ) (ts : List Table) → Decides (all_named n ts) ((s : ℕ) → s < n → Any (Names s) ts)

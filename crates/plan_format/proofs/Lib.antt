@@ -1,12 +1,11 @@
 pub mod BitLaws
 pub mod Exactly
 pub mod Parts
-pub mod Moves
 pub mod Chains
 pub mod Header
 pub mod Tables
 pub mod Ending
-pub mod Places
-pub mod Cutting
 pub mod Whole
 pub mod Unique
+pub mod Places
+pub mod Cutting

@@ -1,16 +1,15 @@
 -- Reading a whole file is exact.
-use Rattle.std.proofs.Common.{◌≡◌, ℕ, ◌≤◌, true, List, [], ◌++◌, length, sym, refl, ap, ◌∙◌, subst, arith}
-use Rattle.std.specs.List.{flat_map}
-use Rattle.refusal.specs.declared.reason.Refusal.TheVariants.{Unnamed, NotPadded}
+use Rattle.std.proofs.Common.{◌≡◌, ℕ, ◌≤◌, true, List, ◌++◌, length, sym, refl, ap, arith}
+use Rattle.std.specs.List.{All, flat_map}
 use Rattle.model.specs.Plan.{Plan}
-use Rattle.model.specs.Rules.{Valid, Each}
+use Rattle.model.specs.Rules.{Valid}
 use Rattle.model.specs.Tests.{all_named}
 use Rattle.model.proofs.Deciding.{all_named_decides}
 use Rattle.plan_format.specs.Bits.{bits, spell}
-use Rattle.plan_format.specs.Reading.{got, ◌then◌, repeat, ranged, header, table, padded, body, read}
-use Rattle.plan_format.specs.File.{spell_header, spell_table, spell_plan, FileOf}
+use Rattle.plan_format.specs.Reading.{got, ◌then◌, repeat, ranged, table, padded, body, read}
+use Rattle.plan_format.specs.File.{spell_table, spell_plan}
 use Rattle.plan_format.specs.Laws.{ReadsExactly}
-use Rattle.plan_format.proofs.Exactly.{then_got, given_got, got_is, got_at, Exact, Chain, then_exact, made_exact, repeat_exact, ranged_exact, stands_end}
+use Rattle.plan_format.proofs.Exactly.{Exact, Chain, then_exact, made_exact, repeat_exact, ranged_exact}
 use Rattle.plan_format.proofs.Chains.{GoodTable, tables_from, tables_to}
 use Rattle.plan_format.proofs.Header.{InCount, GoodCounts, header_exact}
 use Rattle.plan_format.proofs.Tables.{table_exact}
@@ -18,86 +17,57 @@ use Rattle.plan_format.proofs.Ending.{padding_from, padding_to}
 
 -- n tables, after the value counts
 abbrev Tables : List ℕ → ℕ → Plan → Type 0
-Tables counts n p = (p.counts ≡ counts) × ((length p.tables ≡ n) × Chain (GoodTable counts) [] p.tables)
+Tables counts n p = (p.counts ≡ counts) × ((length p.tables ≡ n) × Chain (GoodTable counts) p.tables)
 
 -- a table count, then the tables
 abbrev CountedTables : List ℕ → Plan → Type 0
 CountedTables counts p = ((1 ≤ length p.tables) × (length p.tables ≤ 16)) × Tables counts (length p.tables) p
 
-module _ (file counts : List ℕ) (few : length counts ≤ 32) (each : Each InCount counts) where
+module _ (file counts : List ℕ) (few : length counts ≤ 32) (each : All InCount counts) where
   tables_exact : (n : ℕ)
       → Exact (bits file) (λ q. ◌then◌ (repeat (table (bits file) counts) n q) (λ tables r. got (record { counts = counts; tables = tables }) r)) (Tables counts n) (λ p. flat_map spell_table p.tables)
   tables_exact n =
-      made_exact {C = Plan} (bits file) (repeat (table (bits file) counts) n) (λ tables. (length tables ≡ n) × Chain (GoodTable counts) [] tables) (flat_map spell_table)
-      (λ tables. record { counts = counts; tables = tables }) (λ p. p.tables) (λ p. p.counts ≡ counts) (λ tables. (refl, refl))
-      (λ p h. ap (λ (counts : List ℕ). record { counts = counts; tables = p.tables }) (sym h))
-      (repeat_exact (bits file) (table (bits file) counts) (GoodTable counts) spell_table (table_exact file counts few each) n)
+      made_exact {C = Plan} (λ tables. record { counts = counts; tables = tables }) (λ p. p.tables) (λ p. p.counts ≡ counts) (λ tables. (refl, refl))
+      (λ p h. ap (λ (counts : List ℕ). record { counts = counts; tables = p.tables }) (sym h)) (repeat_exact (table_exact file counts few each) n)
 
   rest_exact : Exact (bits file)
       (λ q. ◌then◌ (ranged (bits file) 5 1 16 q) (λ n r. ◌then◌ (repeat (table (bits file) counts) n r) (λ tables s. got (record { counts = counts; tables = tables }) s)))
       (CountedTables counts) (λ p. spell 5 (length p.tables) ++ flat_map spell_table p.tables)
-  rest_exact =
-      then_exact (bits file) (ranged (bits file) 5 1 16) _ (λ n. (1 ≤ n) × (n ≤ 16)) (Tables counts) (spell 5) (λ p. flat_map spell_table p.tables) (λ p. length p.tables)
-      (ranged_exact file 5 1 16 (omega arith) (omega arith)) (λ p n g. tables_exact n) (λ n p g h. sym h.1.0)
+  rest_exact = then_exact (λ p. length p.tables) (ranged_exact file 5 1 16 (omega arith) (omega arith)) (λ _ n _. tables_exact n) (λ n p g h. sym h.1.0)
 
 -- a plan in the order of its bits
 abbrev PlanRead : Plan → Type 0
 PlanRead p = GoodCounts p.counts × CountedTables p.counts p
 
 body_exact : (file : List ℕ) → Exact (bits file) (body (bits file)) PlanRead spell_plan
-body_exact file =
-    then_exact (bits file) (header (bits file)) (λ _. _) GoodCounts CountedTables
-    spell_header (λ p. spell 5 (length p.tables) ++ flat_map spell_table p.tables) (λ p. p.counts)
-    (header_exact file) (λ _ counts g. rest_exact file counts g.1 g.2) (λ counts p g h. sym h.1.0)
+body_exact file = then_exact (λ p. p.counts) (header_exact file) (λ _ counts g. rest_exact file counts g.1 g.2) (λ counts p g h. sym h.1.0)
 
 plan_words : (p : Plan)
     → (PlanRead p × (all_named (length p.counts) p.tables ≡ true) → Valid p) × (Valid p → PlanRead p × (all_named (length p.counts) p.tables ≡ true))
-plan_words p = (from, to)
-  where
-    from : PlanRead p × (all_named (length p.counts) p.tables ≡ true) → Valid p
-    from h =
-        let c = h.0.0 in
-        let t = tables_from p.counts p.tables h.0.1.1.1.1 in
-        record {
-          some_settings = c.0;
-          few_settings = c.1;
-          values = c.2;
-          some_tables = h.0.1.0.0;
-          few_tables = h.0.1.0.1;
-          tables_keep = t.0;
-          few_rows = t.1;
-          named = (all_named_decides (length p.counts) p.tables).0 h.1;
-        }
+plan_words p = (
+  (λ h.
+      let t = tables_from p.counts p.tables h.0.1.1.1.1 in
+      let n = (all_named_decides (length p.counts) p.tables).0 h.1 in
+      assumption),
+  (λ v.
+      let t = tables_to p.counts p.tables v.tables_keep v.few_rows in
+      let n = (all_named_decides (length p.counts) p.tables).1 v.named in
+      assumption),
+)
 
-    to : Valid p → PlanRead p × (all_named (length p.counts) p.tables ≡ true)
-    to v = (
-      (
-        (v.some_settings, v.few_settings, v.values),
-        ((v.some_tables, v.few_tables), (refl, (refl, tables_to p.counts p.tables v.tables_keep v.few_rows))),
-      ),
-      (all_named_decides (length p.counts) p.tables).1 v.named,
-    )
+read_parts : (file : List ℕ) (p : Plan) (q : ℕ)
+    → read file ≡ got p q → (body (bits file) 0 ≡ got p q) × (all_named (length p.counts) p.tables ≡ true) × (padded (bits file) q ≡ true)
+read_parts file p q e = grind arith
 
 pub reads_exactly : ReadsExactly
-reads_exactly file p q = (reads, stands)
-  where
-    reads : read file ≡ got p q → Valid p × FileOf p file × (q ≡ length (spell_plan p))
-    reads e =
-        let t = then_got (body (bits file) 0) _ p q e in
-        let g = given_got (all_named (length t.0.counts) t.0.tables) (Unnamed t.1) _ p q t.3 in
-        let h = given_got (padded (bits file) t.1) (NotPadded t.1) _ p q g.1 in
-        let is : t.0 ≡ p = got_is t.0 p t.1 q h.1 in
-        let at : t.1 ≡ q = got_at t.0 p t.1 q h.1 in
-        let r = (body_exact file 0 p q).0 (t.2 ∙ h.1) in
-        let n : all_named (length p.counts) p.tables ≡ true = subst (λ (x : Plan). all_named (length x.counts) x.tables ≡ true) is g.0 in
-        let d : padded (bits file) q ≡ true = subst (λ k. padded (bits file) k ≡ true) at h.0 in
-        ((plan_words p).0 (r.0, n), padding_from (bits file) (spell_plan p) q r.1 d, stands_end (bits file) 0 (spell_plan p) q r.1 ∙ omega arith)
-
-    stands : Valid p × FileOf p file × (q ≡ length (spell_plan p)) → read file ≡ got p q
-    stands h =
-        let v = (plan_words p).1 h.0 in
-        let d = padding_to (bits file) (spell_plan p) q h.1.0 h.1.1 h.1.2 h.2 in
-        let r : body (bits file) 0 ≡ got p q = (body_exact file 0 p q).1 (v.0, d.0) in
-        let n = v.1 in
-        let m = d.1 in
-        rw (r, n, m) refl
+reads_exactly file p q = (
+  (λ e.
+      let t = read_parts file p q e in
+      let r = (body_exact file).reads 0 p q t.0 in
+      ((plan_words p).0 (r.0, t.1), padding_from (bits file) (spell_plan p) q r.1 t.2, omega (arith, r.1.to))),
+  (λ h.
+      let v = (plan_words p).1 h.0 in
+      let d = padding_to (bits file) (spell_plan p) q h.1.0 h.1.1 h.1.2 h.2 in
+      let r = (body_exact file).stands 0 p q (v.0, d.0) in
+      rw (r, v.1, d.1) refl),
+)

@@ -1,8 +1,8 @@
 -- Worked examples: files, and what reading them gives.
 use Rattle.std.specs.Prelude.{◌≡◌, ℕ, List, [], ◌∷◌, ◌++◌, take, Some, Option}
+use Rattle.std.specs.List.{AllByRecursion}
 use Rattle.refusal.specs.Refusals.{number_of, place_of}
 use Rattle.model.specs.Plan.{Plan}
-use Rattle.model.specs.Rules.{Each}
 use Rattle.plan_format.specs.Reading.{Read, got, refused, read}
 
 -- the file of plan P
@@ -44,4 +44,4 @@ examples =
     ∷ []
 
 abbrev pub Examples : Type 0
-Examples = Each (λ x. outcome (read x.0) ≡ x.1) examples
+Examples = AllByRecursion (λ x. outcome (read x.0) ≡ x.1) examples

@@ -1,9 +1,10 @@
 -- The laws that tie the two: exactly the plan files are read, and what is read is what they spell.
 use Rattle.std.specs.Prelude.{◌≡◌, ℕ, ◌*◌, ◌<◌, ◌≤◌, List, length, take, Some}
+use Rattle.std.specs.List.{All}
 use Rattle.refusal.specs.declared.reason.Refusal.{Refusal}
 use Rattle.refusal.specs.Refusals.{number_of, place_of}
 use Rattle.model.specs.Plan.{Plan}
-use Rattle.model.specs.Rules.{Valid, Each}
+use Rattle.model.specs.Rules.{Valid}
 use Rattle.plan_format.specs.File.{FileOf, spell_plan}
 use Rattle.plan_format.specs.Reading.{got, refused, read}
 
@@ -40,7 +41,7 @@ ReadsNoFurther = (file : List ℕ) → read (take 65536 file) ≡ read file
 
 -- bytes, as a file has them
 abbrev pub Bytes : List ℕ → Type 0
-Bytes file = Each (λ n. n < 256) file
+Bytes file = All (λ n. n < 256) file
 
 -- a plan has exactly one file
 abbrev pub OneFile : Type 0

@@ -1,5 +1,6 @@
 -- Worked examples: calls on a new roll, and what is then seen of it.
 use Rattle.std.specs.Prelude.{◌≡◌, ℕ, Bool, true, false, List, [], ◌∷◌, ◌++◌, replicate, Ok, Err}
+use Rattle.std.specs.List.{AllByRecursion, fold}
 use Rattle.refusal.specs.Refusals.{number_of}
 use Rattle.roll.specs.Meaning.{Meaning, begun, struck, stands_at, standing, kept_of}
 use Rattle.roll.specs.Calls.{Answer, begin_answer, after_begin, save_answer, after_save, back_answer, after_back}
@@ -19,8 +20,7 @@ after most m save = after_save m
 after most m back = after_back m
 
 abbrev pub after_all : ℕ → Meaning → List Call → Meaning
-after_all most m [] = m
-after_all most m (c ∷ cs) = after_all most (after most m c) cs
+after_all most m calls = fold (after most) m calls
 
 -- 0 where a call is accepted, and else the number of the refusal
 abbrev pub returned_by : Answer → ℕ
@@ -76,9 +76,5 @@ examples =
     ∷ case 1024 (begin 65 ∷ strike 63 ∷ []) back 12 64 0 false true
     ∷ []
 
-abbrev pub Hold : List (Example × Seen) → Type 0
-Hold [] = Unit {0}
-Hold (x ∷ xs) = (seen x.0 ≡ x.1) × Hold xs
-
 abbrev pub Examples : Type 0
-Examples = Hold examples
+Examples = AllByRecursion (λ x. seen x.0 ≡ x.1) examples

@@ -1,5 +1,6 @@
 -- What the definitions of a roll's meaning come to, in other words.
-use Rattle.std.specs.Prelude.{◌≡◌, ℕ, suc, ◌+◌, ◌<◌, ◌≤◌, true, false, List, length, Some, None, Ok, Err, slice_index}
+use Rattle.std.specs.Prelude.{◌≡◌, ℕ, suc, ◌+◌, ◌<◌, ◌≤◌, true, false, List, Some, None, Ok, Err}
+use Rattle.std.specs.List.{Contains}
 use Rattle.refusal.specs.declared.reason.Refusal.{Refusal}
 use Rattle.refusal.specs.Refusals.{number_of}
 use Rattle.roll.specs.Meaning.{Meaning, size_of, stands_at, standing, kept_of, first_at, begun, struck, struck_all, stood_of}
@@ -33,15 +34,11 @@ pub record Counted (m : Meaning) : Type 0 where
 abbrev pub CountsStanding : Type 0
 CountsStanding = ((n : ℕ) → standing (begun n) ≡ n) × ((m : Meaning) → Counted m)
 
--- k is in the list
-abbrev pub Listed : List ℕ → ℕ → Type 0
-Listed ks k = (i : ℕ) × (i < length ks) × (slice_index ks i ≡ k)
-
 -- a list of numbers is struck: those of the list stand no more, all others stand as they stood, and size, saves and free saves
 -- stay; as many stand less as the list had numbers that stood
 pub record Without (m : Meaning) (ks : List ℕ) (after : Meaning) : Type 0 where
-  pub gone : (k : ℕ) → Listed ks k → stands_at after k ≡ false
-  pub others : (k : ℕ) → (Listed ks k → ⊥) → stands_at after k ≡ stands_at m k
+  pub gone : (k : ℕ) → Contains ks k → stands_at after k ≡ false
+  pub others : (k : ℕ) → (Contains ks k → ⊥) → stands_at after k ≡ stands_at m k
   pub sized : size_of after ≡ size_of m
   pub saves : after.saves ≡ m.saves
   pub free : after.free ≡ m.free

@@ -1,5 +1,7 @@
 -- What a roll means: which numbers below its size stand, which saves it keeps, and how many saves are free.
-use Rattle.std.specs.Prelude.{◌≡◌, ℕ, suc, ◌+◌, ◌-◌, ◌≤◌, Bool, true, false, List, [], ◌∷◌, length, drop, replicate, Some, None, Option, slice_index_or, slice_set}
+use Rattle.std.specs.Prelude.{◌≡◌, ℕ, suc, ◌+◌, ◌-◌, ◌≤◌, Bool, true, false, List, [], ◌∷◌, length, drop, replicate, Option, slice_index_or, slice_set}
+use Rattle.std.specs.List.{fold, position}
+use Rattle.std.specs.Option.{option_map}
 
 -- a set of numbers below a size: one mark for each number, true where it is in the set
 abbrev pub Marks : Type 0
@@ -14,12 +16,6 @@ abbrev pub trues : Marks → ℕ
 trues [] = 0
 trues (true ∷ marks) = suc (trues marks)
 trues (false ∷ marks) = trues marks
-
--- the first number that is in the set, where the first mark is that of p
-abbrev pub first_true : ℕ → Marks → Option ℕ
-first_true p [] = None
-first_true p (true ∷ marks) = Some p
-first_true p (false ∷ marks) = first_true (suc p) marks
 
 -- marks: the numbers that stand. saves: the numbers that stood at each save kept, the newest save first.
 -- free: how many more saves can be kept.
@@ -46,7 +42,7 @@ kept_of m = length m.saves
 
 -- the first number at or after p that stands, or none
 abbrev pub first_at : Meaning → ℕ → Option ℕ
-first_at m p = first_true p (drop p m.marks)
+first_at m p = option_map (λ k. p + k) (position (λ mark. mark) (drop p m.marks))
 
 -- What is made of a roll.
 
@@ -60,8 +56,7 @@ struck m k = record { marks = slice_set m.marks k false; saves = m.saves; free =
 
 -- every number of a list taken out
 abbrev pub struck_all : Meaning → List ℕ → Meaning
-struck_all m [] = m
-struck_all m (k ∷ ks) = struck_all (struck m k) ks
+struck_all m ks = fold struck m ks
 
 -- how many of the numbers of a list stood: as many as are gone when they are taken out
 abbrev pub stood_of : Meaning → List ℕ → ℕ

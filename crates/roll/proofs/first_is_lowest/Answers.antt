@@ -1,5 +1,5 @@
-use Rattle.roll.proofs.First.{first_is_lowest}
+use Rattle.roll.proofs.First.{tells_some, tells_none, lowest_is, none_is}
 use Rattle.roll.proofs.first_is_lowest.Goals as goal
 
 pub returns : goal.returns
-returns c = first_is_lowest
+returns c m p = ((λ k. (tells_some m p k, lowest_is m p k)), tells_none m p, none_is m p)
