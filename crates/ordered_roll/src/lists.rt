@@ -1,4 +1,4 @@
-ghost use Rattle.std.specs.Prelude.{◌≡◌, ℕ, ◌<◌, ◌≤◌, slice_index};
+ghost use Rattle.std.specs.Prelude.{◌≡◌, ℕ, ◌<◌, ◌≤◌, length, slice_index};
 ghost use Rattle.ordered_roll.specs.Places.{list_after, place_after};
 
 // The numbers below the size, each once, and the place of each in that list. Each array leads back from the other,
@@ -16,11 +16,8 @@ impl Lists {
         ensures list { (i : ℕ) → i < n → slice_index self.new.list i ≡ i }
         ensures place { (i : ℕ) → i < n → slice_index self.new.place i ≡ i }
     {
-        // By number, since a proof does not know what a zip of two `iter_mut` writes.
-        for i in 0..n {
-            self.list[usize::from(i)] = i;
-            self.place[usize::from(i)] = i;
-        }
+        ascend(&mut self.list[..usize::from(n)]);
+        ascend(&mut self.place[..usize::from(n)]);
     }
 
     // Moves k to the place q, and the number that was there to the place of k.
@@ -38,5 +35,15 @@ impl Lists {
         self.list[usize::from(q)] = k;
         self.place[usize::from(other)] = p;
         self.place[usize::from(k)] = q;
+    }
+}
+
+// Writes each number at its own place.
+fn ascend(numbers: &mut [u16])
+    requires { length numbers.old ≤ 1024 }
+    ensures { (i : ℕ) → i < length numbers.old → slice_index numbers.new i ≡ i }
+{
+    for (i, number) in numbers.iter_mut().enumerate() {
+        *number = i as u16;
     }
 }
