@@ -27,7 +27,7 @@ impl Save {
     }
 }
 
-// A place for each save that can be kept, the oldest first.
+// A place for each save that can be kept, the oldest first. Memory is fixed, so the number of saves is kept apart.
 #[derive(Drop)]
 pub(crate) struct Trail {
     pub(crate) saves: [Save; 32],

@@ -39,7 +39,7 @@ pub enum Refusal {
 }
 
 impl Refusal {
-    // The number by which the refusal is told.
+    // The number by which the refusal is told; no cast gives it, since some cases hold a place.
     pub fn number(&self) -> u8
         ensures { result ≡ number_of self.now }
     {

@@ -2,6 +2,7 @@
 use refusal::Refusal;
 use roll::Roll;
 
+// A call as data, since tables list calls and scripts draw them at random.
 #[derive(Clone, Copy)]
 pub(crate) enum Call {
     Begin(u32),
