@@ -6,7 +6,8 @@ use crate::lists::Lists;
 
 pub mod kind;
 
-// How many numbers stood at each save, the oldest first. Memory is fixed, so the number of saves is kept apart.
+// How many numbers stood at each save, the oldest first. Memory is fixed; how many are kept is tied to it by the
+// invariant of the roll.
 #[derive(Drop)]
 pub(crate) struct Notes {
     pub(crate) counts: [u16; 32],

@@ -27,7 +27,8 @@ impl Save {
     }
 }
 
-// A place for each save that can be kept, the oldest first. Memory is fixed, so the number of saves is kept apart.
+// A place for each save that can be kept, the oldest first. Memory is fixed; how many are kept is tied to it by the
+// invariant of the roll.
 #[derive(Drop)]
 pub(crate) struct Trail {
     pub(crate) saves: [Save; 32],
