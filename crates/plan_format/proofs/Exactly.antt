@@ -20,10 +20,10 @@ pub given_got : {A : Type 0} (t : Bool) (x : Refusal) (r : Read A) (y : A) (q : 
 given_got t x r y q e = grind arith
 
 pub got_is : {A : Type 0} (x y : A) (p q : ℕ) → got x p ≡ got y q → x ≡ y
-got_is x y p q e = cc
+got_is x y p q e = grind arith
 
 pub got_at : {A : Type 0} (x y : A) (p q : ℕ) → got x p ≡ got y q → p ≡ q
-got_at x y p q e = cc
+got_at x y p q e = grind arith
 
 -- the bits e stand in b from p up to q
 pub record Stands (b : List ℕ) (p : ℕ) (e : List ℕ) (q : ℕ) : Type 0 where

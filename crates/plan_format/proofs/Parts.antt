@@ -7,7 +7,7 @@ use Rattle.plan_format.proofs.Exactly.{then_got, got_is}
 
 -- n readings give n items
 pub repeat-length : {A : Type 0} (one : List A → ℕ → Read A) (n p : ℕ) (xs : List A) (q : ℕ) → repeat one n p ≡ got xs q → length xs ≡ n
-repeat-length one zero p xs q e = cc
+repeat-length one zero p xs q e = grind arith
 repeat-length one (suc n) p xs q e =
     let t = then_got (repeat one n p) _ xs q e in
     let u = then_got (one t.0 t.1) _ xs q t.3 in
