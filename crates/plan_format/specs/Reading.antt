@@ -6,10 +6,11 @@ use Rattle.model.specs.Plan.{Plan, Table, rows_in}
 use Rattle.model.specs.Tests.{below, all_named}
 use Rattle.plan_format.specs.Bits.{bits, number_at}
 
--- what was read and the place after it, or a refusal
+-- what a reading gives: what was read and the place after it, or a refusal
 abbrev pub Read : Type 0 → Type 0
 Read A = Result (A × ℕ) Refusal
 
+-- the two cases
 pattern abbrev pub got : {A : Type 0} → A → ℕ → Read A
 got a q = Ok (a, q)
 
