@@ -16,14 +16,8 @@ use Rattle.plan_format.proofs.BitLaws.{number_at-below, bits_below, length-spell
 pub then_got : {A B : Type 0} (r : Read A) (k : A → ℕ → Read B) (y : B) (q : ℕ) → (r then k) ≡ got y q → (x : A) × (m : ℕ) × (r ≡ got x m) × (k x m ≡ got y q)
 then_got r k y q e = grind arith
 
-pub given_got : {A : Type 0} (t : Bool) (x : Refusal) (r : Read A) (y : A) (q : ℕ) → given t x r ≡ got y q → (t ≡ true) × (r ≡ got y q)
-given_got t x r y q e = grind arith
-
-pub got_is : {A : Type 0} (x y : A) (p q : ℕ) → got x p ≡ got y q → x ≡ y
-got_is x y p q e = cc
-
-pub got_at : {A : Type 0} (x y : A) (p q : ℕ) → got x p ≡ got y q → p ≡ q
-got_at x y p q e = cc
+pub got_same : {A : Type 0} {x y : A} {p q : ℕ} → got x p ≡ got y q → (x ≡ y) × (p ≡ q)
+got_same e = grind arith
 
 -- the bits e stand in b from p up to q
 pub record Stands (b : List ℕ) (p : ℕ) (e : List ℕ) (q : ℕ) : Type 0 where
@@ -175,8 +169,8 @@ module _ {A : Type 0} {b : List ℕ} {one : List A → ℕ → Read A} {good : L
         let ys = t.0 in
         let x = u.0 in
         let i = ih.reads p ys t.1 t.2 in
-        let o = (each ys).reads t.1 x q (u.2 ∙ ap (got x) (got_at (ys ++ x ∷ []) xs u.1 q u.3)) in
-        subst (λ zs. Good (suc n) zs × Stands b p (flat_map spelt zs) q) (got_is (ys ++ x ∷ []) xs u.1 q u.3) (
+        let o = (each ys).reads t.1 x q (u.2 ∙ ap (got x) (got_same u.3).1) in
+        subst (λ zs. Good (suc n) zs × Stands b p (flat_map spelt zs) q) (got_same u.3).0 (
           (omega (arith, length_push ys x, i.0.0), chain_push good ys x i.0.1 o.0),
           subst (λ bs. Stands b p bs q) (flat_map_more spelt [] ys x) (stands_join i.1 o.1),
         );

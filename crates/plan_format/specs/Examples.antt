@@ -1,5 +1,5 @@
 -- Worked examples: files, and what reading them gives.
-use Rattle.std.specs.Prelude.{◌≡◌, ℕ, List, [], ◌∷◌, ◌++◌, take, Some, Option}
+use Rattle.std.specs.Prelude.{◌≡◌, ℕ, List, [], ◌∷◌, ◌++◌, take, Some, Ok, Err, Option, Result}
 use Rattle.std.specs.List.{AllByRecursion}
 use Rattle.refusal.specs.Refusals.{number_of, place_of}
 use Rattle.model.specs.Plan.{Plan}
@@ -21,23 +21,22 @@ plan_p =
     }
 
 -- what reading a file gives: a plan, or a refusal's number and bit place
-pub data Outcome : Type 0 where
-  plan : Plan → Outcome
-  refusal : ℕ → Option ℕ → Outcome
+abbrev pub Outcome : Type 0
+Outcome = Result Plan (ℕ × Option ℕ)
 
 abbrev pub outcome : Read Plan → Outcome
-outcome (got p q) = plan p
-outcome (refused e) = refusal (number_of e) (place_of e)
+outcome (got p q) = Ok p
+outcome (refused e) = Err (number_of e, place_of e)
 
 abbrev pub at : ℕ → ℕ → Outcome
-at number place = refusal number (Some place)
+at number place = Err (number, Some place)
 
 -- the table of examples
 abbrev pub examples : List (List ℕ × Outcome)
 examples =
     ([], at 1 0)
     ∷ (0x02 ∷ [], at 2 0)
-    ∷ (file_p, plan plan_p)
+    ∷ (file_p, Ok plan_p)
     ∷ (take 20 file_p, at 1 160)
     ∷ (take 20 file_p ++ 0x09 ∷ [], at 6 165)
     ∷ (file_p ++ 0x00 ∷ [], at 6 165)

@@ -1,15 +1,21 @@
 -- Reading a plan file front to back: the plan, or the first refusal, with its bit place.
-use Rattle.std.specs.Prelude.{ℕ, zero, suc, ◌+◌, ◌-◌, Bool, true, false, ◌&&◌, List, [], ◌∷◌, ◌++◌, length, drop, ◌==◌, nat_le, nat_lt, slice_index}
+use Rattle.std.specs.Prelude.{ℕ, zero, suc, ◌+◌, ◌-◌, Bool, true, false, ◌&&◌, List, [], ◌∷◌, ◌++◌, length, drop, ◌==◌, nat_le, nat_lt, slice_index, Ok, Err, Result}
 use Rattle.refusal.specs.declared.reason.Refusal.{Refusal}
 use Rattle.refusal.specs.declared.reason.Refusal.TheVariants.{CutShort, OutOfRange, NotAscending, TooManyRows, Unnamed, NotPadded}
 use Rattle.model.specs.Plan.{Plan, Table, rows_in}
 use Rattle.model.specs.Tests.{below, all_named}
 use Rattle.plan_format.specs.Bits.{bits, number_at}
 
--- what was read and the place after it, or a refusal
-pub data Read (A : Type 0) : Type 0 where
-  got : A → ℕ → Read A
-  refused : Refusal → Read A
+-- what a reading gives: what was read and the place after it, or a refusal
+abbrev pub Read : Type 0 → Type 0
+Read A = Result (A × ℕ) Refusal
+
+-- the two cases
+pattern abbrev pub got : {A : Type 0} → A → ℕ → Read A
+got a q = Ok (a, q)
+
+pattern abbrev pub refused : {A : Type 0} → Refusal → Read A
+refused e = Err e
 
 -- a reading, then another that goes on from what was read and the place after it
 infixr 10 ◌then◌

@@ -65,18 +65,11 @@ module _ (file : List ℕ) (a b : Reader) (head : PlanHead) (front : a.file.now 
   read_got e f = sym (reads_no_further file) ∙ rw (body_is, ← named_is, ← e, ← padded_is, ← f) refl
 
 answer_ok : {A B : Type 0} (f : A → B) (r : Read A) (x : B) → Ok x ≡ answer f r → (a : A) × (q : ℕ) × (r ≡ got a q) × (x ≡ f a)
-answer_ok f (got a q) x e = (a, q, refl, ok_is x (f a) e)
-  where
-    ok_is : {B : Type 0} (x y : B) → ◌≡◌ {A = Result B Refusal} (Ok x) (Ok y) → x ≡ y
-    ok_is x y e = cc
-answer_ok f (refused w) x e = let z : ◌≡◌ {A = ℕ} 0 1 = cc in let k : ⊥ = omega arith in absurd k
+answer_ok f (got a q) x e = (a, q, refl, cc)
+answer_ok f (refused w) x e = absurd cc
 
 answer_err : {A B : Type 0} (f : A → B) (r : Read A) (w : Refusal) → Err w ≡ answer f r → r ≡ refused w
-answer_err f (got a q) w e = let z : ◌≡◌ {A = ℕ} 0 1 = cc in let k : ⊥ = omega arith in absurd k
-answer_err {A} {B} f (refused v) w e = err_is v w e
-  where
-    err_is : (v w : Refusal) → ◌≡◌ {A = Result B Refusal} (Err w) (Err v) → ◌≡◌ {A = Read A} (refused v) (refused w)
-    err_is v w e = cc
+answer_err f r w e = grind arith
 
 pub judges : (file : List ℕ) (r : Result Numbers Refusal) → r ≡ answer numbers_of (read file) → Judges file r
 judges file r e = record { accepted = accepted; accepts = accepts; refused = none; placed = placed; refuses = refuses }
