@@ -53,10 +53,7 @@ impl<'a> Reader<'a> {
         if after > self.end() {
             return Err(Refusal::CutShort(place));
         }
-        let mut value: u16 = 0;
-        for p in place..after {
-            value = value * 2 + u16::from(self.bit(p));
-        }
+        let value = (place..after).fold(0, |value, p| value << 1 | u16::from(self.bit(p)));
         self.place = after;
         Ok(value)
     }
