@@ -1,14 +1,9 @@
 -- Those rules that are tested where a plan is read, as tests; and the law that the tests decide them.
 use Rattle.std.specs.Prelude.{ℕ, zero, suc, ◌<◌, Bool, true, false, ◌&&◌, ◌||◌, List, [], ◌∷◌, ◌==◌, nat_eq, nat_lt}
 use Rattle.std.specs.Bool.{Decides}
-use Rattle.std.specs.List.{Any}
+use Rattle.std.specs.List.{Any, list_any}
 use Rattle.model.specs.Plan.{Table}
 use Rattle.model.specs.Rules.{Below, Names}
-
--- some element of a list passes
-abbrev pub any : {A : Type 0} → (A → Bool) → List A → Bool
-any test [] = false
-any test (x ∷ xs) = test x || any test xs
 
 -- every number below n passes
 abbrev pub all_below : ℕ → (ℕ → Bool) → Bool
@@ -24,11 +19,11 @@ below (x ∷ xs) (y ∷ ys) = nat_lt x y || (x == y && below xs ys)
 
 -- a table names a setting
 abbrev pub names : ℕ → Table → Bool
-names s t = any (nat_eq s) t.scope
+names s t = list_any (nat_eq s) t.scope
 
 -- each of n settings is named by a table
 abbrev pub all_named : ℕ → List Table → Bool
-all_named n ts = all_below n (λ s. any (names s) ts)
+all_named n ts = all_below n (λ s. list_any (names s) ts)
 
 -- each test passes exactly where its rule holds
 pub record TestsDecide : Type 0 where

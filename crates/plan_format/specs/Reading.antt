@@ -1,5 +1,6 @@
 -- Reading a plan file front to back: the plan, or the first refusal, with its bit place.
 use Rattle.std.specs.Prelude.{ℕ, zero, suc, ◌+◌, ◌-◌, Bool, true, false, ◌&&◌, List, [], ◌∷◌, ◌++◌, length, drop, ◌==◌, nat_le, nat_lt, slice_index, Ok, Err, Result}
+use Rattle.std.specs.List.{list_all}
 use Rattle.refusal.specs.declared.reason.Refusal.{Refusal}
 use Rattle.refusal.specs.declared.reason.Refusal.TheVariants.{CutShort, OutOfRange, NotAscending, TooManyRows, Unnamed, NotPadded}
 use Rattle.model.specs.Plan.{Plan, Table, rows_in}
@@ -103,8 +104,7 @@ body b p =
 
 -- all are 0
 abbrev pub zeros : List ℕ → Bool
-zeros [] = true
-zeros (x ∷ xs) = x == 0 && zeros xs
+zeros xs = list_all (λ x. x == 0) xs
 
 -- fewer than eight bits follow, all 0
 abbrev pub padded : List ℕ → ℕ → Bool

@@ -4,7 +4,8 @@ use Rattle.refusal.specs.declared.reason.Refusal.{Refusal}
 use Rattle.refusal.specs.declared.reason.Refusal.TheVariants.{Unnamed, NotPadded}
 use Rattle.model.specs.Plan.{Plan}
 use Rattle.model.specs.Rules.{Valid}
-use Rattle.model.specs.Tests.{any, names, all_below, all_named}
+use Rattle.model.specs.Tests.{names, all_below, all_named}
+use Rattle.std.specs.List.{list_any}
 use Rattle.plan_format.specs.Bits.{bits}
 use Rattle.plan_format.specs.File.{FileOf, spell_plan}
 use Rattle.plan_format.specs.Reading.{Read, got, refused, padded, body, read}
@@ -49,7 +50,7 @@ module _ (file : List ℕ) (a b : Reader) (head : PlanHead) (front : a.file.now 
   named_is : all_below n (marked head.named) ≡ all_named (length plan.counts) plan.tables
   named_is =
       let h = k.reads.2 in
-      all_below_same n (marked head.named) (λ s. any (names s) plan.tables) (λ s l. h.named s (omega arith))
+      all_below_same n (marked head.named) (λ s. list_any (names s) plan.tables) (λ s l. h.named s (omega arith))
       ∙ ap (λ m. all_named m plan.tables) (settings ∙ ap length h.counts)
 
   padded_is : padded (bits b.file.now) b.place ≡ padded (bits bytes) b.place

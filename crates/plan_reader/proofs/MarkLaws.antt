@@ -1,13 +1,13 @@
 -- Marking a setting, and testing marks one after another.
 use Rattle.std.proofs.Common.{◌≡◌, ℕ, zero, suc, ◌<◌, ◌≤◌, Bool, false, ◌||◌, ◌&&◌, List, [], ◌∷◌, ◌++◌, length, get_or, take, replicate, sym, refl, ap, ◌∙◌, add-one, arith}
-use Rattle.std.proofs.lemmas.List.Folds.{list_all_more}
-use Rattle.std.proofs.Math.Bool.{or-false, or_assoc}
+use Rattle.std.proofs.lemmas.List.Folds.{list_all_more, list_any-append}
+use Rattle.std.proofs.Math.Bool.{or-false}
 use Rattle.std.specs.List.{list_all}
-use Rattle.model.specs.Tests.{any, all_below}
+use Rattle.model.specs.Tests.{all_below}
+use Rattle.std.specs.List.{list_any}
 
-pub any_push : {A : Type 0} (test : A → Bool) (xs : List A) (x : A) → any test (xs ++ x ∷ []) ≡ (any test xs || test x)
-any_push test [] x = or-false (test x)
-any_push test (y ∷ xs) x = ap (λ b. test y || b) (any_push test xs x) ∙ sym (or_assoc (test y) (any test xs) (test x))
+pub any_push : {A : Type 0} (test : A → Bool) (xs : List A) (x : A) → list_any test (xs ++ x ∷ []) ≡ (list_any test xs || test x)
+any_push test xs x = list_any-append test xs (x ∷ []) ∙ ap (λ b. list_any test xs || b) (or-false (test x))
 
 -- tests that answer alike below n
 pub all_below_same : (n : ℕ) (f g : ℕ → Bool) → ((s : ℕ) → s < n → f s ≡ g s) → all_below n f ≡ all_below n g

@@ -1,5 +1,6 @@
 ghost use Rattle.std.specs.Prelude.{◌≡◌, ℕ, ◌<◌, ◌≤◌, false, ◌||◌, ◌==◌, nat_eq};
-ghost use Rattle.model.specs.Tests.{all_below, any};
+ghost use Rattle.model.specs.Tests.{all_below};
+ghost use Rattle.std.specs.List.{list_any};
 ghost use Rattle.plan_reader.specs.Marks.{marked};
 
 // Which of 32 settings are named by the tables so far.
@@ -26,7 +27,7 @@ impl Named {
 
     // Marks the settings of a scope too.
     pub(crate) fn add(&mut self, scope: &[u8])
-        ensures { (s : ℕ) → s < 32 → marked self.new s ≡ (marked self.old s || any (nat_eq s) scope.now) }
+        ensures { (s : ℕ) → s < 32 → marked self.new s ≡ (marked self.old s || list_any (nat_eq s) scope.now) }
     {
         for setting in scope {
             self.mark(*setting);

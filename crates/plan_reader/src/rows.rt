@@ -1,4 +1,4 @@
-ghost use Rattle.std.specs.Prelude.{◌≡◌, ℕ, ◌≤◌, List, length};
+ghost use Rattle.std.specs.Prelude.{◌≡◌, ℕ, List, length};
 ghost use Rattle.plan_format.specs.Reading.{repeat, row as row_of, value as value_of};
 ghost use Rattle.plan_reader.specs.Rows.{above, Last};
 ghost use Rattle.plan_reader.specs.Outcomes.{Keeps, Reads};

@@ -1,6 +1,6 @@
 -- What a roll means: which numbers below its size stand, which saves it keeps, and how many saves are free.
 use Rattle.std.specs.Prelude.{◌≡◌, ℕ, suc, ◌+◌, ◌-◌, ◌≤◌, Bool, true, false, List, [], ◌∷◌, length, drop, replicate, Option, slice_index_or, slice_set}
-use Rattle.std.specs.List.{fold, position}
+use Rattle.std.specs.List.{AllByRecursion, fold, position}
 use Rattle.std.specs.Option.{option_map}
 
 -- a set of numbers below a size: one mark for each number, true where it is in the set
@@ -75,8 +75,7 @@ returned m (s ∷ ss) = record { marks = s; saves = ss; free = m.free + 1 }
 
 -- each save has n marks
 abbrev pub Sized : ℕ → List Marks → Type 0
-Sized n [] = Unit {0}
-Sized n (s ∷ ss) = (length s ≡ n) × Sized n ss
+Sized n saves = AllByRecursion (λ s. length s ≡ n) saves
 
 -- the size is at most the most of the kind, each save has the size, and saves kept and free are at most 32 together
 pub record Sound (most : ℕ) (m : Meaning) : Type 0 where

@@ -1,7 +1,8 @@
 use Rattle.std.proofs.Common.{◌≡◌, ℕ, ◌<◌, ◌||◌, eqb, List, [], ◌∷◌, ◌++◌, sym, ap, ◌∙◌, arith}
 use Rattle.std.proofs.lemmas.Result.{err_from_is_err_and}
 use Rattle.model.specs.Plan.{Table}
-use Rattle.model.specs.Tests.{any, names}
+use Rattle.model.specs.Tests.{names}
+use Rattle.std.specs.List.{list_any}
 use Rattle.plan_format.proofs.Chains.{rows_push}
 use Rattle.plan_reader.specs.Marks.{marked, Marks}
 use Rattle.plan_reader.specs.declared.named.Named.{Named}
@@ -11,9 +12,9 @@ use Rattle.plan_reader.proofs.reader.Reader.tables.Goals as goal
 
 -- one table's settings marked too
 marks_more : (old new : Named) (ts : List Table) (t : Table) (part scope : List ℕ) → Marks old ts → part ≡ scope → scope ≡ t.scope
-    → ((s : ℕ) → s < 32 → marked new s ≡ (marked old s || any (eqb s) part)) → Marks new (ts ++ t ∷ [])
+    → ((s : ℕ) → s < 32 → marked new s ≡ (marked old s || list_any (eqb s) part)) → Marks new (ts ++ t ∷ [])
 marks_more old new ts t part scope m e f h s l =
-    h s l ∙ ap (λ b. b || any (eqb s) part) (m s l) ∙ ap (λ (xs : List ℕ). any (names s) ts || any (eqb s) xs) (e ∙ f) ∙ sym (any_push (names s) ts t)
+    h s l ∙ ap (λ b. b || list_any (eqb s) part) (m s l) ∙ ap (λ (xs : List ℕ). list_any (names s) ts || list_any (eqb s) xs) (e ∙ f) ∙ sym (any_push (names s) ts t)
 
 pub returns-in_err-table : goal.returns-in_err-table
 returns-in_err-table c =
