@@ -20,7 +20,7 @@ fn judge(file: &[u8]) -> Result<Numbers, Refusal>
     }
     let rows = u32::from(plan.rows);
     Ok(Numbers {
-        settings: plan.counts.len() as u32,
+        settings: u32::from(plan.counts.len()),
         tables: u32::from(plan.tables),
         rows,
         values: plan.counts.sum(),

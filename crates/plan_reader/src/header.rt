@@ -14,7 +14,7 @@ impl Item for ValueCount {
 
     fn read(&self, reader: &mut Reader<'_>, _before: &ShortList) -> Result<u8, Refusal> {
         let count = reader.ranged(6, 1, 32)?;
-        Ok(count as u8)
+        Ok(count as u8) // at most 32
     }
 }
 

@@ -35,10 +35,10 @@ impl Named {
     }
 
     // Whether each setting below `n` is marked.
-    pub(crate) fn has_all(&self, n: usize) -> bool
+    pub(crate) fn has_all(&self, n: u8) -> bool
         requires { n ≤ 32 }
         ensures { result ≡ all_below n (marked self.now) }
     {
-        self.marks[..n].iter().all(|mark| *mark)
+        self.marks[..usize::from(n)].iter().all(|mark| *mark)
     }
 }

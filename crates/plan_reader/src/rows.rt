@@ -20,7 +20,7 @@ impl Item for Columns<'_> {
     ghost reading = { λ c b before. value_of b c.counts.now c.scope.now before };
 
     fn read(&self, reader: &mut Reader<'_>, before: &ShortList) -> Result<u8, Refusal> {
-        let setting = self.scope.at(before.len());
+        let setting = self.scope.at(usize::from(before.len()));
         reader.below(self.counts.at(usize::from(setting)))
     }
 }
@@ -41,7 +41,7 @@ impl Reader<'_> {
         ensures { (before : List (List ℕ)) → Last before last.now → Reads self.old self.new result (λ b. row_of b columns.entry.counts.now columns.entry.scope.now before) }
     {
         let place = self.place();
-        let row = self.list(&columns, columns.scope.len() as u16)?;
+        let row = self.list(&columns, u16::from(columns.scope.len()))?;
         if !is_above(last, &row) {
             return Err(Refusal::NotAscending(place));
         }

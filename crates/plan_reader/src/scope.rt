@@ -17,7 +17,7 @@ impl Item for Setting<'_> {
 
     fn read(&self, reader: &mut Reader<'_>, before: &ShortList) -> Result<u8, Refusal> {
         let place = reader.place();
-        let setting = reader.below(self.counts.len() as u8)?;
+        let setting = reader.below(self.counts.len())?;
         if !before.rises_to(setting) {
             return Err(Refusal::NotAscending(place));
         }

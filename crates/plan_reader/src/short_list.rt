@@ -8,7 +8,7 @@ use std::marker::Model;
 #[derive(Drop)]
 pub(crate) struct ShortList {
     items: [u8; 32],
-    len: usize,
+    len: u8,
 }
 
 impl Model for ShortList {
@@ -29,7 +29,7 @@ impl ShortList {
         }
     }
 
-    pub(crate) fn len(&self) -> usize
+    pub(crate) fn len(&self) -> u8
         ensures len { result ≡ length self.now }
         ensures few { result ≤ 32 }
     {
@@ -40,7 +40,7 @@ impl ShortList {
         ensures items { result.now ≡ self.now }
         ensures few { length result.now ≤ 32 }
     {
-        &self.items[..self.len]
+        &self.items[..usize::from(self.len)]
     }
 
     // The number at place `i`, or 0 past the end.
@@ -55,7 +55,7 @@ impl ShortList {
         requires { length self.old < 32 }
         ensures { self.new ≡ self.old ++ number ∷ [] }
     {
-        self.items[self.len] = number;
+        self.items[usize::from(self.len)] = number;
         self.len += 1;
     }
 

@@ -31,7 +31,7 @@ impl<'a> Reader<'a> {
     fn end(&self) -> u32
         ensures { result ≡ 8 * length self.now.file.now }
     {
-        8 * (self.file.len() as u32)
+        8 * (self.file.len() as u32) // at most 65,536 bytes
     }
 
     // The bit at a place of the file.
@@ -80,7 +80,7 @@ impl<'a> Reader<'a> {
         if value >= u16::from(n) {
             return Err(Refusal::OutOfRange(place));
         }
-        Ok(value as u8)
+        Ok(value as u8) // below n
     }
 
     // Whether fewer than eight bits follow, all 0.

@@ -34,8 +34,8 @@ returns c =
     let p = k.reads.0 in
     let head = k.reads.2 in
     let e = read_got c.args.file.now c.new-reader.result c.body.new.self c.in_ok-plan.plan from.front from.place k c.len.result n.len n.few c.if-not-has_all.ensures c.if-not-is_padded.ensures in
-    let settings : c.len-2.result ≡ length p.counts = c.len-2.ensures.len ∙ ap length head.counts in
-    let tables : c.from.result ≡ length p.tables = c.from.ensures ∙ head.tables in
+    let settings : c.from.result ≡ length p.counts = c.from.ensures ∙ c.len-2.ensures.len ∙ ap length head.counts in
+    let tables : c.from-2.result ≡ length p.tables = c.from-2.ensures ∙ head.tables in
     let rows : c.from-rows.result ≡ row_count p = c.from-rows.ensures ∙ head.rows in
     let values : c.sum.result ≡ value_count p = c.sum.ensures ∙ ap sum head.counts in
     (λ i. Ok (record { settings = settings i; tables = tables i; rows = rows i; values = values i; cells = 8 * rows i })) ∙ sym (ap (answer numbers_of) e)
