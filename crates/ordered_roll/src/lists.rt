@@ -44,6 +44,6 @@ fn ascend(numbers: &mut [u16])
     ensures { (i : ℕ) → i < length numbers.old → slice_index numbers.new i ≡ i }
 {
     for (i, number) in numbers.iter_mut().enumerate() {
-        *number = i as u16;
+        *number = i as u16; // below 1,024
     }
 }

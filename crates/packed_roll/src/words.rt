@@ -34,7 +34,7 @@ impl Words {
         ensures { word_in self.new.bits ≡ full n }
     {
         for (w, word) in self.bits.iter_mut().enumerate() {
-            let rest = n.saturating_sub(w as u32 * 64).min(64);
+            let rest = n.saturating_sub(w as u32 * 64).min(64); // w is below 64
             *word = if rest == 64 {
                 u64::MAX
             } else {

@@ -49,7 +49,7 @@ fn choose(random: &mut Random, saves: u32, size: u32) -> Call {
     }
 }
 
-// Makes the call on both, which then answer and tell the same.
+// Makes the call, which is data since it was drawn, on both, which then answer and tell the same.
 fn call_both<R: Roll>(rt: &impl Abort, roll: &mut R, plain: &mut Plain, call: Call) {
     match call {
         Call::Begin(n) => assert_eq!(rt; roll.begin(n), plain.begin(n)),

@@ -7,6 +7,7 @@ use crate::ordered::{Notes, OrderedRoll};
 use refusal::Refusal;
 use roll::Roll;
 
+// No number or count is above 1,024, so the casts to `u16` lose nothing.
 impl Roll for OrderedRoll {
     const MOST: u32 = 1024;
 
@@ -52,7 +53,8 @@ impl Roll for OrderedRoll {
         true
     }
 
-    // The counts are told alike by both kinds: each is a struct of its own, whose invariant ties them to its own parts.
+    // The counts are told, and calls declined, alike by both kinds: each is a struct of its own, whose invariant ties the
+    // counts to its own parts.
     fn size(&self) -> u32 {
         self.size
     }

@@ -58,7 +58,8 @@ impl Roll for PackedRoll {
         true
     }
 
-    // The counts are told alike by both kinds: each is a struct of its own, whose invariant ties them to its own parts.
+    // The counts are told, and calls declined, alike by both kinds: each is a struct of its own, whose invariant ties the
+    // counts to its own parts.
     fn size(&self) -> u32 {
         self.size
     }
@@ -80,7 +81,7 @@ impl Roll for PackedRoll {
     }
 
     // Goes by words, from the place's own bit on in its word and from bit 0 on in the words after it. It counts the
-    // words, since the number of the word is part of the answer.
+    // words: on what a `find_map` over them finds, the library has no lemma.
     fn first_from(&self, place: u32) -> Option<u32> {
         for w in place / 64..self.size.div_ceil(64) {
             let from = place.saturating_sub(w * 64);
