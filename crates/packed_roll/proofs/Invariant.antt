@@ -56,7 +56,6 @@ holds_begin s f n l e = record {
 }
 
 pub begin_is : (s : Parts) (f : ℕ → ℕ) (n : ℕ) → n ≤ 4096 → f ≡ full n → Done (Ok tt) (begin_answer 4096 n) (means (begun_parts s f n)) (after_begin 4096 n (means s))
-unfolding saves_of
 begin_is s f n l h =
     let d = begin_done 4096 n (means s) l in
     let e : means (begun_parts s f n) ≡ begun n = λ i. record { marks = (ap (λ g. marks_of g n) h ∙ marks_full n) i; saves = []; free = 32 } in
@@ -73,7 +72,6 @@ pub record SavesKept (s : Parts) (f : ℕ → ℕ) (saves : List Save) : Type 0 
 -- the newest save L notes the word
 kept_by : (s : Parts) (k L : ℕ) → s.kept ≡ suc L → L < length s.saves → k / 64 < length (save_at s.saves L).words
     → SavesKept s (without s.words k) (set s.saves L (noting (save_at s.saves L) (k / 64) (s.words (k / 64))))
-unfolding saves_of words_at
 kept_by s k L n l b =
     let w : ℕ = k / 64 in
     let f : ℕ → ℕ = s.words in
@@ -88,7 +86,6 @@ kept_by s k L n l b =
 
 pub saves_kept : (s : Parts) (k : ℕ) → s.kept ≤ length s.saves → (0 < s.kept → k / 64 < length (save_at s.saves (s.kept - 1)).words)
     → SavesKept s (without s.words k) (saves_noting s.saves s.kept (k / 64) (s.words (k / 64)))
-unfolding saves_of
 saves_kept s k l b = go s.kept refl
   where
     go : (K : ℕ) → s.kept ≡ K → SavesKept s (without s.words k) (saves_noting s.saves K (k / 64) (s.words (k / 64)))
@@ -155,17 +152,14 @@ abbrev pub back_parts : Parts → (ℕ → ℕ) → List Save → ℕ → Parts
 back_parts s f saves K = record { words = f; saves = saves; size = s.size; count = (save_at s.saves K).count; kept = K }
 
 pub back_none : (s : Parts) → s.kept ≡ 0 → Done (Err NoSaveKept) (back_answer (means s)) (means s) (after_back (means s))
-unfolding saves_of
 back_none s e = back_declined (means s) (rw e refl)
 
 module _ (s : Parts) (f : ℕ → ℕ) (saves : List Save) (K : ℕ) (v : Holds s) (n : s.kept ≡ suc K) (e : f ≡ rewound (save_at s.saves K) s.words)
     (q : saves ≡ s.saves) where
   newest_at : f ≡ words_at s.saves s.words s.kept K
-  unfolding words_at
   newest_at = rw (n, e) (sym (cond-true _ _ _ (eq-eqb K K refl)))
 
   older_at : (i : ℕ) → i < K → words_at saves f K i ≡ words_at s.saves s.words s.kept i
-  unfolding words_at
   older_at i b = rw (n, q, e) (sym (cond-false _ _ _ (ne_eqb i K (λ d. omega arith))))
 
   pub holds_back : Holds (back_parts s f saves K)
@@ -177,7 +171,6 @@ module _ (s : Parts) (f : ℕ → ℕ) (saves : List Save) (K : ℕ) (v : Holds 
   }
 
   pub back_is : Done (Ok tt) (back_answer (means s)) (means (back_parts s f saves K)) (after_back (means s))
-  unfolding saves_of
   back_is =
       let g : ℕ → ℕ = rewound (save_at s.saves K) s.words in
       let d = back_done (means s) (marks_of g s.size) (saves_of s.saves s.size g K) (rw n refl) in

@@ -14,13 +14,11 @@ abbrev SameBelow : (saves saves' : List Save) → ℕ → Type 0
 SameBelow saves saves' K = (J : ℕ) → J < K → save_at saves' J ≡ save_at saves J
 
 saves_keep : (saves saves' : List Save) (n K : ℕ) (f : ℕ → ℕ) → SameBelow saves saves' K → saves_of saves' n f K ≡ saves_of saves n f K
-unfolding saves_of
 saves_keep saves saves' n zero f h = refl
 saves_keep saves saves' n (suc K) f h =
     rw (h K (omega arith)) (cc (saves_keep saves saves' n K (rewound (save_at saves K) f) (λ J l. h J (omega arith))))
 
 words_keep : (saves saves' : List Save) (K i : ℕ) (f : ℕ → ℕ) → SameBelow saves saves' K → words_at saves' f K i ≡ words_at saves f K i
-unfolding words_at
 words_keep saves saves' zero i f h = refl
 words_keep saves saves' (suc K) i f h =
     rw (h K (omega arith)) (cc (words_keep saves saves' K i (rewound (save_at saves K) f) (λ J l. h J (omega arith))))
@@ -34,11 +32,9 @@ module _ (saves : List Save) (K : ℕ) (s : Save) (f g : ℕ → ℕ) (l : K < l
   here = ap (λ t. rewound t f) (get_or-set_same saves K s _ l) ∙ e
 
   pub saves-set : (n : ℕ) → saves_of (set saves K s) n f (suc K) ≡ marks_of g n ∷ saves_of saves n g K
-  unfolding saves_of
   saves-set n = rw here (cc (saves_keep saves (set saves K s) n K g same_below))
 
   pub words-set : (i : ℕ) → words_at (set saves K s) f (suc K) i ≡ cond (eqb i K) g (words_at saves g K i)
-  unfolding words_at
   words-set i = rw here (cc (words_keep saves (set saves K s) K i g same_below))
 
 -- a new save has no word noted

@@ -15,11 +15,9 @@ pub clear_at : (n : ℕ) (f : ℕ → ℕ) → Clear n f → (k : ℕ) → n ≤
 clear_at n f h k l = grind (arith, h (k - n))
 
 pub marks_past : (n : ℕ) (f : ℕ → ℕ) (k : ℕ) → n ≤ k → has (marks_of f n) k ≡ false
-unfolding marks_of
 marks_past n f k l = made_past (mark f) n k l
 
 pub marks_at : (n : ℕ) (f : ℕ → ℕ) → Clear n f → (k : ℕ) → has (marks_of f n) k ≡ mark f k
-unfolding marks_of
 marks_at n f h k = grind (arith, common_steps, cases_lt k n, made_at (mark f) n k, made_past (mark f) n k, clear_at n f h k)
 
 -- All numbers below n stand.
@@ -32,7 +30,6 @@ pub clear_full : (n : ℕ) → Clear n (full n)
 clear_full n k = mark-full n (n + k) ∙ le-ltb (n + k) n (omega arith)
 
 pub marks_full : (n : ℕ) → marks_of (full n) n ≡ replicate n true
-unfolding marks_of
 marks_full n = made_all (mark (full n)) n (λ k l. mark-full n k ∙ lt-ltb k n l)
 
 pub count_full : (n : ℕ) → trues (marks_of (full n) n) ≡ n
@@ -69,7 +66,6 @@ mark_other : (f : ℕ → ℕ) (k i : ℕ) → i ≢ k → mark (without f k) i 
 mark_other f k i n = grind (arith, common_steps, cases_eq (i / 64) (k / 64), bit_turned_other (f (i / 64)) (i % 64) (k % 64))
 
 pub marks_struck : (f : ℕ → ℕ) (k n : ℕ) → mark f k ≡ true → marks_of (without f k) n ≡ set (marks_of f n) k false
-unfolding marks_of
 marks_struck f k n h = made-set (mark (without f k)) (mark f) n k (mark-struck f k h) (λ i b d. mark_other f k i d)
 
 pub clear_struck : (f : ℕ → ℕ) (k n : ℕ) → mark f k ≡ true → Clear n f → Clear n (without f k)

@@ -1,12 +1,10 @@
 use Rattle.std.proofs.Common.{◌≡◌, ℕ, suc, ◌-◌, ◌<◌, arith}
 use Rattle.std.proofs.lemmas.List.{set-get_or}
-use Rattle.packed_roll.specs.Packed.{meaning_of}
 use Rattle.packed_roll.specs.Words.{word_in}
 use Rattle.packed_roll.proofs.Invariant.{parts_of, held_by, back_none, holds_back, back_is}
 use Rattle.packed_roll.proofs.packed.kind.PackedRollRoll.back.Goals as goal
 
 pub returns-then-self-eq0 : goal.returns-then-self-eq0
-unfolding meaning_of
 returns-then-self-eq0 c =
     let d = back_none (parts_of c.args.self.now) c.if-self-eq0.true in
     record { answer = d.answer; after = d.after }
@@ -20,7 +18,6 @@ invariant_of-self c =
     record { few = h.few; few_saves = omega arith; now = h.now; at_saves = λ i l. let b : i < K = omega arith in h.at_saves i b }
 
 pub returns : goal.returns
-unfolding meaning_of
 returns c =
     let p = c.args.self.now in
     let K : ℕ = p.kept - 1 in

@@ -1,5 +1,4 @@
 use Rattle.std.proofs.Common.{arith}
-use Rattle.packed_roll.specs.Packed.{meaning_of}
 use Rattle.packed_roll.specs.Words.{word_in}
 use Rattle.packed_roll.proofs.Invariant.{parts_of, holds_begin, begin_is}
 use Rattle.packed_roll.proofs.packed.kind.PackedRollRoll.begin.Goals as goal
@@ -10,7 +9,6 @@ invariant_of-self c =
     record { few = h.few; few_saves = h.few_saves; now = h.now; at_saves = h.at_saves }
 
 pub returns : goal.returns
-unfolding meaning_of
 returns c =
     let d = begin_is (parts_of c.args.self.now) (word_in c.fill.new.self.bits) c.args.n (omega arith) c.fill.ensures in
     record { answer = d.answer; after = d.after }

@@ -1,5 +1,4 @@
 use Rattle.std.proofs.Common.{◌≡◌, ℕ, suc, ◌+◌, refl, ap, ◌∙◌, subst, arith}
-use Rattle.packed_roll.specs.Packed.{meaning_of}
 use Rattle.packed_roll.specs.Trail.{save_at}
 use Rattle.packed_roll.specs.declared.packed.PackedRoll.{PackedRoll}
 use Rattle.packed_roll.specs.declared.trail.Save.{Save}
@@ -7,7 +6,6 @@ use Rattle.packed_roll.proofs.Invariant.{Parts, Holds, parts_of, held_by, means,
 use Rattle.packed_roll.proofs.packed.kind.PackedRollRoll.save.Goals as goal
 
 pub returns-then-self-eq32 : goal.returns-then-self-eq32
-unfolding meaning_of
 returns-then-self-eq32 c =
     let d = save_none (parts_of c.args.self.now) c.if-self-eq32.true in
     record { answer = d.answer; after = d.after }
@@ -30,7 +28,6 @@ invariant_of-self c =
     record { few = h.few; few_saves = omega arith; now = h.now; at_saves = h.at_saves }
 
 pub returns : goal.returns
-unfolding meaning_of
 returns c =
     let p = c.args.self.now in
     let t = c.if-self-eq32.false in

@@ -18,7 +18,6 @@ record Standing (p : PackedRoll) (k : ℕ) : Type 0 where
   marked : mark (word_in p.words.bits) k ≡ true
 
 standing : (p : PackedRoll) (k : ℕ) → stands_at (meaning_of p) k ≡ true → Standing p k
-unfolding meaning_of
 standing p k h =
     let l = stands_below (meaning_of p) k h in
     let e = length_marks (word_in p.words.bits) p.size in
@@ -73,7 +72,6 @@ invariant_of-self c =
     }
 
 pub returns : goal.returns
-unfolding meaning_of
 returns c =
     let p = c.args.self.now in
     let k : ℕ = c.args.k in
