@@ -7,7 +7,7 @@ use Rattle.std.proofs.lemmas.Bool.{cases_lt, cases_eq, le-ltb, lt-ltb}
 use Rattle.std.proofs.lemmas.Grind.{common_steps}
 use Rattle.roll.specs.Meaning.{has, trues}
 use Rattle.roll.proofs.Marks.{made_at, made_past, made_all, made-set, trues_all, trues-set}
-use Rattle.packed_roll.specs.Words.{mark, marks_of, word_in, Clear, full, without}
+use Rattle.packed_roll.specs.Words.{mark, marks_of, word_in, Clear, Tallied, full, without}
 use Rattle.packed_roll.proofs.BitLaws.{bit_turned_other, bit_turned_same, bit_ones, bit_ones_past, bit-zero}
 
 -- no number at or above n stands
@@ -26,14 +26,17 @@ mark-full : (n k : ℕ) → mark (full n) k ≡ ltb k n
 mark-full n k =
     grind (arith, common_steps, cases_lt k n, bit_ones (min (n - k / 64 * 64) 64) (k % 64), bit_ones_past (min (n - k / 64 * 64) 64) (k % 64))
 
-pub clear_full : (n : ℕ) → Clear n (full n)
+clear_full : (n : ℕ) → Clear n (full n)
 clear_full n k = mark-full n (n + k) ∙ le-ltb (n + k) n (omega arith)
 
 pub marks_full : (n : ℕ) → marks_of (full n) n ≡ replicate n true
 marks_full n = made_all (mark (full n)) n (λ k l. mark-full n k ∙ lt-ltb k n l)
 
-pub count_full : (n : ℕ) → trues (marks_of (full n) n) ≡ n
+count_full : (n : ℕ) → trues (marks_of (full n) n) ≡ n
 count_full n = ap trues (marks_full n) ∙ trues_all n
+
+pub tallied_full : (n : ℕ) → Tallied n n (full n)
+tallied_full n = record { clear = clear_full n; counted = count_full n }
 
 -- the word by which r numbers stand, as the code makes it: for all 64 and for fewer
 pub full_max : (n w r : ℕ) → r ≡ min (n - w * 64) 64 → r ≡ 64 → 2 ^ 64 - 1 ≡ full n w

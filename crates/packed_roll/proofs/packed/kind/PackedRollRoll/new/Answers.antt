@@ -9,6 +9,3 @@ invariant_of-result c = record {
   now = record { clear = λ k. clear_zeros 64 (0 + k); counted = refl };
   at_saves = λ i z. absurd (omega arith);
 }
-
-pub returns : goal.returns
-returns c = refl
