@@ -1,5 +1,5 @@
 -- A strike of a number k that stands: its bit is turned, and the newest of the saves notes its word.
-use Rattle.std.proofs.Common.{◌≡◌, ℕ, suc, ◌-◌, ◌/◌, ◌<◌, ◌≤◌, true, List, length, sym, ap, ◌∙◌, arith}
+use Rattle.std.proofs.Common.{◌≡◌, ℕ, suc, ◌-◌, ◌/◌, ◌<◌, ◌≤◌, true, List, length, sym, ◌∙◌, arith}
 use Rattle.roll.specs.Meaning.{stands_at, struck, trues}
 use Rattle.roll.proofs.First.{stands_below}
 use Rattle.packed_roll.specs.Packed.{meaning_of}
@@ -23,30 +23,30 @@ standing p k h =
     let s = p.few in
     record { most = omega arith; marked = sym (marks_at p.size (word_in p.words.bits) p.now.clear k) ∙ h }
 
--- the code leaves the words g and the saves
-pub record Written (p : PackedRoll) (k : ℕ) (g : ℕ → ℕ) (saves : List Save) : Type 0 where
-  pub words : g ≡ without (word_in p.words.bits) k
-  pub noted : saves ≡ saves_noting p.trail.saves p.kept (k / 64) (word_in p.words.bits (k / 64))
-  pub within : 0 < p.kept → k / 64 < length (save_at p.trail.saves (p.kept - 1)).words
-  pub places : p.kept ≤ length p.trail.saves
+abbrev pub new_words : PackedRoll → ℕ → ℕ → ℕ
+new_words p k = without (word_in p.words.bits) k
 
--- there is one to count less
-pub counted_struck : (p : PackedRoll) (k : ℕ) (g : ℕ → ℕ) → Standing p k → g ≡ without (word_in p.words.bits) k → suc (trues (marks_of g p.size)) ≡ p.count
-counted_struck p k g s e = rw e (count_struck (word_in p.words.bits) k p.size s.marked p.now.clear ∙ p.now.counted)
+abbrev pub new_saves : PackedRoll → ℕ → List Save
+new_saves p k = saves_noting p.trail.saves p.kept (k / 64) (word_in p.words.bits (k / 64))
 
-module _ (p : PackedRoll) (k : ℕ) (g : ℕ → ℕ) (saves : List Save) (s : Standing p k) (r : Written p k g saves) where
-  kept : SavesKept p.kept (word_in p.words.bits) g p.trail.saves saves
-  kept = rw (r.words, r.noted) (saves_kept p.trail.saves p.kept (word_in p.words.bits) k r.places r.within)
+module _ (p : PackedRoll) (k : ℕ) (s : Standing p k) where
+  pub cleared : Clear p.size (new_words p k)
+  cleared = clear_struck (word_in p.words.bits) k p.size s.marked p.now.clear
 
-  pub clear : Clear p.size g
-  clear = rw r.words (clear_struck (word_in p.words.bits) k p.size s.marked p.now.clear)
+  -- there is one to count less
+  pub counted_struck : suc (trues (marks_of (new_words p k) p.size)) ≡ p.count
+  counted_struck = count_struck (word_in p.words.bits) k p.size s.marked p.now.clear ∙ p.now.counted
 
-  pub tallied : (i : ℕ) → i < p.kept → Tallied p.size (save_at saves i).count (words_at saves g p.kept i)
-  tallied i l = rw (kept.words i l, kept.counts i) (p.at_saves i l)
+  module _ (long : p.kept ≤ length p.trail.saves) (within : 0 < p.kept → k / 64 < length (save_at p.trail.saves (p.kept - 1)).words) where
+    kept : SavesKept p.kept (word_in p.words.bits) (new_words p k) p.trail.saves (new_saves p k)
+    kept = saves_kept p.trail.saves p.kept (word_in p.words.bits) k long within
 
-  pub means_struck : record { marks = marks_of g p.size; saves = saves_of saves p.size g p.kept; free = 32 - p.kept } ≡ struck (meaning_of p) k
-  means_struck = λ i. record {
-    marks = (ap (λ f. marks_of f p.size) r.words ∙ marks_struck (word_in p.words.bits) k p.size s.marked) i;
-    saves = kept.marks p.size i;
-    free = 32 - p.kept;
-  }
+    pub tallied_struck : (i : ℕ) → i < p.kept → Tallied p.size (save_at (new_saves p k) i).count (words_at (new_saves p k) (new_words p k) p.kept i)
+    tallied_struck i l = rw (kept.words i l, kept.counts i) (p.at_saves i l)
+
+    pub means_struck : record {
+      marks = marks_of (new_words p k) p.size;
+      saves = saves_of (new_saves p k) p.size (new_words p k) p.kept;
+      free = 32 - p.kept;
+    } ≡ struck (meaning_of p) k
+    means_struck = λ i. record { marks = marks_struck (word_in p.words.bits) k p.size s.marked i; saves = kept.marks p.size i; free = 32 - p.kept }

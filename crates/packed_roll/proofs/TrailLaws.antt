@@ -52,11 +52,6 @@ pub noting_count : (saves : List Save) (L w old i : ℕ) → L < length saves
 noting_count saves L w old i l = grind (arith, common_steps, cases_eq i L)
 
 -- what the newest of the saves kept notes, as the code writes it
-pub noting_newest : (saves : List Save) (kept w old : ℕ) → 0 < kept → set saves (kept - 1) (noting (save_at saves (kept - 1)) w old) ≡ saves_noting saves kept w old
-noting_newest saves kept w old l = grind (arith, common_steps)
-
-pub noting_none : (saves : List Save) (kept w old : ℕ) → kept ≤ 0 → saves ≡ saves_noting saves kept w old
-noting_none saves kept w old l = grind (arith, common_steps)
 
 -- A strike of k: the bit of k is turned, and the newest of the saves notes its word.
 

@@ -1,8 +1,5 @@
 -- Which numbers words stand for, and how that alters. The words are given by functions f.
-use Rattle.std.proofs.Common.{◌≡◌, ℕ, suc, ◌+◌, ◌-◌, ◌*◌, ◌/◌, ◌%◌, ◌^◌, ◌<◌, ◌≤◌, ◌≢◌, min, true, false, ltb, List, length, get_or, set, replicate, ap, ◌∙◌, arith}
-use lib.Bits.{bit_xor}
-use Rattle.std.proofs.Math.Path.{fun_ext}
-use Rattle.std.proofs.lemmas.Nat.{one_shl}
+use Rattle.std.proofs.Common.{◌≡◌, ℕ, suc, ◌+◌, ◌-◌, ◌*◌, ◌/◌, ◌%◌, ◌≤◌, ◌≢◌, min, true, false, ltb, set, replicate, ap, ◌∙◌, arith}
 use Rattle.std.proofs.lemmas.Bool.{cases_lt, cases_eq, le-ltb, lt-ltb}
 use Rattle.std.proofs.lemmas.Grind.{common_steps}
 use Rattle.roll.specs.Meaning.{has, trues}
@@ -39,14 +36,6 @@ pub tallied_full : (n : ℕ) → Tallied n n (full n)
 tallied_full n = record { clear = clear_full n; counted = count_full n }
 
 -- the word by which r numbers stand, as the code makes it: for all 64 and for fewer
-pub full_max : (n w r : ℕ) → r ≡ min (n - w * 64) 64 → r ≡ 64 → 2 ^ 64 - 1 ≡ full n w
-full_max n w r e f = cc
-
-pub full_part : (n w r : ℕ) → r ≡ min (n - w * 64) 64 → r < 64 → 1 * 2 ^ r % 2 ^ 64 - 1 ≡ full n w
-full_part n w r e l = grind (arith, one_shl r 64 l)
-
-pub filled : (n : ℕ) (ws : List ℕ) → n ≤ 4096 → length ws ≡ 64 → ((w : ℕ) → w < 64 → get_or ws w 0 ≡ full n w) → word_in ws ≡ full n
-filled n ws l e h = fun_ext (λ w. grind (arith, common_steps, cases_lt w 64, h w))
 
 -- words that are all 0
 pub clear_zeros : (n k : ℕ) → mark (word_in (replicate n 0)) k ≡ false
@@ -55,9 +44,6 @@ clear_zeros n k = grind (arith, common_steps, cases_lt (k / 64) n, bit-zero (k %
 -- One number is taken out.
 
 -- as the code turns its bit
-pub turned : (ws : List ℕ) (k : ℕ) → k / 64 < length ws
-    → word_in (set ws (k / 64) (bit_xor (get_or ws (k / 64) 0) (1 * 2 ^ (k % 64) % 2 ^ 64))) ≡ without (word_in ws) k
-turned ws k l = rw (one_shl (k % 64) 64 (omega arith)) (fun_ext (λ w. grind (arith, common_steps, cases_eq w (k / 64))))
 
 pub word_other : (f : ℕ → ℕ) (k w : ℕ) → w ≢ k / 64 → without f k w ≡ f w
 word_other f k w n = grind (arith, common_steps)

@@ -2,7 +2,7 @@ use Rattle.std.proofs.Common.{◌≡◌, ℕ, suc, ◌+◌, ◌-◌, ◌∙◌, 
 use Rattle.std.proofs.lemmas.List.{set-get_or}
 use Rattle.roll.proofs.Calls.{back_done}
 use Rattle.packed_roll.specs.Packed.{meaning_of}
-use Rattle.packed_roll.specs.Trail.{rewound, save_at, saves_of}
+use Rattle.packed_roll.specs.Trail.{saves_of}
 use Rattle.packed_roll.specs.Words.{marks_of, word_in}
 use Rattle.packed_roll.proofs.TrailLaws.{tallied_newest, tallied_older}
 use Rattle.packed_roll.proofs.packed.kind.PackedRollRoll.back.Goals as goal
@@ -30,7 +30,7 @@ returns-clause-after c =
     let f = word_in p.words.bits in
     let n : p.kept ≡ suc K = let t = c.if-self-eq0.false in omega arith in
     let words = c.restore.ensures in
+    let free : 32 - K ≡ 32 - p.kept + 1 = omega arith in
     let same = set-get_or saves K _ in
-    let free : 32 - K ≡ 32 - p.kept + 1 = let l = p.few_saves in omega arith in
     (λ i. record { marks = marks_of (words i) p.size; saves = saves_of (same i) p.size (words i) K; free = free i })
     ∙ (back_done (meaning_of p) _ _ (ap (saves_of saves p.size f) n)).after
