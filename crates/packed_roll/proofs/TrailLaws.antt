@@ -1,5 +1,5 @@
--- What the saves hold, when a save is put at the newest place.
-use Rattle.std.proofs.Common.{◌≡◌, ℕ, zero, suc, ◌-◌, ◌<◌, ◌≤◌, ◌≢◌, cond, eqb, List, ◌∷◌, length, set, refl, ap, ◌∙◌, inl, inr, ◌/◌, arith}
+-- What the saves hold, when a save is put at the newest place, and when it is gone back to.
+use Rattle.std.proofs.Common.{◌≡◌, ℕ, zero, suc, ◌-◌, ◌<◌, ◌≤◌, ◌≢◌, cond, eqb, List, ◌∷◌, length, set, refl, ap, ◌∙◌, ◌/◌, arith}
 use Rattle.std.proofs.Math.Path.{fun_ext}
 use Rattle.std.proofs.lemmas.List.{get_or-set_same, get_or-set_other}
 use Rattle.std.proofs.lemmas.Bool.{cases_eq, eq-eqb, ne_eqb}
@@ -32,26 +32,24 @@ module _ (saves : List Save) (K : ℕ) (s : Save) (f g : ℕ → ℕ) (l : K < l
   here : rewound (save_at (set saves K s) K) f ≡ g
   here = ap (λ t. rewound t f) (get_or-set_same saves K s _ l) ∙ e
 
-  pub saves-set : (n : ℕ) → saves_of (set saves K s) n f (suc K) ≡ marks_of g n ∷ saves_of saves n g K
+  saves-set : (n : ℕ) → saves_of (set saves K s) n f (suc K) ≡ marks_of g n ∷ saves_of saves n g K
   saves-set n = rw here (cc (saves_keep saves (set saves K s) n K g same_below))
 
-  pub words-set : (i : ℕ) → words_at (set saves K s) f (suc K) i ≡ cond (eqb i K) g (words_at saves g K i)
+  words-set : (i : ℕ) → words_at (set saves K s) f (suc K) i ≡ cond (eqb i K) g (words_at saves g K i)
   words-set i = rw here (cc (words_keep saves (set saves K s) K i g same_below))
 
 -- a new save has no word noted
-pub rewound_fresh : (s : Save) (f : ℕ → ℕ) → s.noted ≡ 0 → rewound s f ≡ f
+rewound_fresh : (s : Save) (f : ℕ → ℕ) → s.noted ≡ 0 → rewound s f ≡ f
 rewound_fresh s f e = fun_ext (λ w. grind (arith, bit-zero w))
 
 -- the word w is overwritten: f becomes f', which is f but at w
-pub rewound_noting : (s : Save) (w : ℕ) (f f' : ℕ → ℕ) → w < length s.words → ((v : ℕ) → v ≢ w → f' v ≡ f v) → rewound (noting s w (f w)) f' ≡ rewound s f
+rewound_noting : (s : Save) (w : ℕ) (f f' : ℕ → ℕ) → w < length s.words → ((v : ℕ) → v ≢ w → f' v ≡ f v) → rewound (noting s w (f w)) f' ≡ rewound s f
 rewound_noting s w f f' l same =
     fun_ext (λ v. grind (arith, common_steps, cases_eq v w, same v, bit_turned_other s.noted v w, bit_turned_same s.noted w))
 
-pub noting_count : (saves : List Save) (L w old i : ℕ) → L < length saves
+noting_count : (saves : List Save) (L w old i : ℕ) → L < length saves
     → (save_at (set saves L (noting (save_at saves L) w old)) i).count ≡ (save_at saves i).count
 noting_count saves L w old i l = grind (arith, common_steps, cases_eq i L)
-
--- what the newest of the saves kept notes, as the code writes it
 
 -- A strike of k: the bit of k is turned, and the newest of the saves notes its word.
 
@@ -76,21 +74,15 @@ saves_kept saves (suc L) f k l b =
       counts = λ i. noting_count saves L w (f w) i (omega arith);
     }
 
--- A save more, s, with no word noted and with what stands counted.
+-- A save more, s, is put at the place K, with no word noted.
 
-pub saves_saved : (saves : List Save) (K : ℕ) (s : Save) (f : ℕ → ℕ) (n : ℕ) → K < length saves → s.noted ≡ 0
-    → saves_of (set saves K s) n f (suc K) ≡ marks_of f n ∷ saves_of saves n f K
-saves_saved saves K s f n l z = saves-set saves K s f f l (rewound_fresh s f z) n
+module _ (saves : List Save) (K : ℕ) (s : Save) (f : ℕ → ℕ) (n : ℕ) (l : K < length saves) (z : s.noted ≡ 0) where
+  pub saves_saved : saves_of (set saves K s) n f (suc K) ≡ marks_of f n ∷ saves_of saves n f K
+  saves_saved = saves-set saves K s f f l (rewound_fresh s f z) n
 
-pub tallied_saved : (saves : List Save) (K : ℕ) (s : Save) (f : ℕ → ℕ) (n : ℕ) → K < length saves → s.noted ≡ 0 → Tallied n s.count f
-    → ((i : ℕ) → i < K → Tallied n (save_at saves i).count (words_at saves f K i))
-    → (i : ℕ) → i < suc K → Tallied n (save_at (set saves K s) i).count (words_at (set saves K s) f (suc K) i)
-tallied_saved saves K s f n l z now older i h =
-    let at : words_at (set saves K s) f (suc K) i ≡ cond (eqb i K) f (words_at saves f K i) = words-set saves K s f f l (rewound_fresh s f z) i in
-    elim (cases_eq i K) [
-      | inl d ↦ rw (at, d) (grind (arith, common_steps))
-      | inr d ↦ rw at (grind (arith, common_steps, older i))
-    ]
+  pub tallied_saved : Tallied n s.count f → ((i : ℕ) → i < K → Tallied n (save_at saves i).count (words_at saves f K i))
+      → (i : ℕ) → i < suc K → Tallied n (save_at (set saves K s) i).count (words_at (set saves K s) f (suc K) i)
+  tallied_saved now older i h = rw (words-set saves K s f f l (rewound_fresh s f z) i) (grind (arith, common_steps, cases_eq i K, older i))
 
 -- Back to the newest save, K.
 

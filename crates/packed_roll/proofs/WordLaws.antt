@@ -23,27 +23,17 @@ mark-full : (n k : ℕ) → mark (full n) k ≡ ltb k n
 mark-full n k =
     grind (arith, common_steps, cases_lt k n, bit_ones (min (n - k / 64 * 64) 64) (k % 64), bit_ones_past (min (n - k / 64 * 64) 64) (k % 64))
 
-clear_full : (n : ℕ) → Clear n (full n)
-clear_full n k = mark-full n (n + k) ∙ le-ltb (n + k) n (omega arith)
-
 pub marks_full : (n : ℕ) → marks_of (full n) n ≡ replicate n true
 marks_full n = made_all (mark (full n)) n (λ k l. mark-full n k ∙ lt-ltb k n l)
 
-count_full : (n : ℕ) → trues (marks_of (full n) n) ≡ n
-count_full n = ap trues (marks_full n) ∙ trues_all n
-
 pub tallied_full : (n : ℕ) → Tallied n n (full n)
-tallied_full n = record { clear = clear_full n; counted = count_full n }
-
--- the word by which r numbers stand, as the code makes it: for all 64 and for fewer
+tallied_full n = record { clear = λ k. mark-full n (n + k) ∙ le-ltb (n + k) n (omega arith); counted = ap trues (marks_full n) ∙ trues_all n }
 
 -- words that are all 0
 pub clear_zeros : (n k : ℕ) → mark (word_in (replicate n 0)) k ≡ false
 clear_zeros n k = grind (arith, common_steps, cases_lt (k / 64) n, bit-zero (k % 64))
 
 -- One number is taken out.
-
--- as the code turns its bit
 
 pub word_other : (f : ℕ → ℕ) (k w : ℕ) → w ≢ k / 64 → without f k w ≡ f w
 word_other f k w n = grind (arith, common_steps)
