@@ -1,6 +1,6 @@
 pub mod BitLaws
 pub mod FirstLaws
-pub mod Invariant
 pub mod Restoring
+pub mod Strike
 pub mod TrailLaws
 pub mod WordLaws

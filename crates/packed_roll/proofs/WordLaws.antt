@@ -1,13 +1,10 @@
 -- Which numbers words stand for, and how that alters. The words are given by functions f.
-use Rattle.std.proofs.Common.{◌≡◌, ℕ, suc, ◌+◌, ◌-◌, ◌*◌, ◌/◌, ◌%◌, ◌^◌, ◌<◌, ◌≤◌, ◌≢◌, min, true, false, ltb, List, length, get_or, set, replicate, ap, ◌∙◌, arith}
-use lib.Bits.{bit_xor}
-use Rattle.std.proofs.Math.Path.{fun_ext}
-use Rattle.std.proofs.lemmas.Nat.{one_shl}
+use Rattle.std.proofs.Common.{◌≡◌, ℕ, suc, ◌+◌, ◌-◌, ◌*◌, ◌/◌, ◌%◌, ◌≤◌, ◌≢◌, min, true, false, ltb, set, replicate, ap, ◌∙◌, arith}
 use Rattle.std.proofs.lemmas.Bool.{cases_lt, cases_eq, le-ltb, lt-ltb}
 use Rattle.std.proofs.lemmas.Grind.{common_steps}
 use Rattle.roll.specs.Meaning.{has, trues}
 use Rattle.roll.proofs.Marks.{made_at, made_past, made_all, made-set, trues_all, trues-set}
-use Rattle.packed_roll.specs.Words.{mark, marks_of, word_in, Clear, full, without}
+use Rattle.packed_roll.specs.Words.{mark, marks_of, word_in, Clear, Tallied, full, without}
 use Rattle.packed_roll.proofs.BitLaws.{bit_turned_other, bit_turned_same, bit_ones, bit_ones_past, bit-zero}
 
 -- no number at or above n stands
@@ -15,11 +12,9 @@ pub clear_at : (n : ℕ) (f : ℕ → ℕ) → Clear n f → (k : ℕ) → n ≤
 clear_at n f h k l = grind (arith, h (k - n))
 
 pub marks_past : (n : ℕ) (f : ℕ → ℕ) (k : ℕ) → n ≤ k → has (marks_of f n) k ≡ false
-unfolding marks_of
 marks_past n f k l = made_past (mark f) n k l
 
 pub marks_at : (n : ℕ) (f : ℕ → ℕ) → Clear n f → (k : ℕ) → has (marks_of f n) k ≡ mark f k
-unfolding marks_of
 marks_at n f h k = grind (arith, common_steps, cases_lt k n, made_at (mark f) n k, made_past (mark f) n k, clear_at n f h k)
 
 -- All numbers below n stand.
@@ -28,36 +23,17 @@ mark-full : (n k : ℕ) → mark (full n) k ≡ ltb k n
 mark-full n k =
     grind (arith, common_steps, cases_lt k n, bit_ones (min (n - k / 64 * 64) 64) (k % 64), bit_ones_past (min (n - k / 64 * 64) 64) (k % 64))
 
-pub clear_full : (n : ℕ) → Clear n (full n)
-clear_full n k = mark-full n (n + k) ∙ le-ltb (n + k) n (omega arith)
-
 pub marks_full : (n : ℕ) → marks_of (full n) n ≡ replicate n true
-unfolding marks_of
 marks_full n = made_all (mark (full n)) n (λ k l. mark-full n k ∙ lt-ltb k n l)
 
-pub count_full : (n : ℕ) → trues (marks_of (full n) n) ≡ n
-count_full n = ap trues (marks_full n) ∙ trues_all n
-
--- the word by which r numbers stand, as the code makes it: for all 64 and for fewer
-pub full_max : (n w r : ℕ) → r ≡ min (n - w * 64) 64 → r ≡ 64 → 2 ^ 64 - 1 ≡ full n w
-full_max n w r e f = cc
-
-pub full_part : (n w r : ℕ) → r ≡ min (n - w * 64) 64 → r < 64 → 1 * 2 ^ r % 2 ^ 64 - 1 ≡ full n w
-full_part n w r e l = grind (arith, one_shl r 64 l)
-
-pub filled : (n : ℕ) (ws : List ℕ) → n ≤ 4096 → length ws ≡ 64 → ((w : ℕ) → w < 64 → get_or ws w 0 ≡ full n w) → word_in ws ≡ full n
-filled n ws l e h = fun_ext (λ w. grind (arith, common_steps, cases_lt w 64, h w))
+pub tallied_full : (n : ℕ) → Tallied n n (full n)
+tallied_full n = record { clear = λ k. mark-full n (n + k) ∙ le-ltb (n + k) n (omega arith); counted = ap trues (marks_full n) ∙ trues_all n }
 
 -- words that are all 0
 pub clear_zeros : (n k : ℕ) → mark (word_in (replicate n 0)) k ≡ false
 clear_zeros n k = grind (arith, common_steps, cases_lt (k / 64) n, bit-zero (k % 64))
 
 -- One number is taken out.
-
--- as the code turns its bit
-pub turned : (ws : List ℕ) (k : ℕ) → k / 64 < length ws
-    → word_in (set ws (k / 64) (bit_xor (get_or ws (k / 64) 0) (1 * 2 ^ (k % 64) % 2 ^ 64))) ≡ without (word_in ws) k
-turned ws k l = rw (one_shl (k % 64) 64 (omega arith)) (fun_ext (λ w. grind (arith, common_steps, cases_eq w (k / 64))))
 
 pub word_other : (f : ℕ → ℕ) (k w : ℕ) → w ≢ k / 64 → without f k w ≡ f w
 word_other f k w n = grind (arith, common_steps)
@@ -69,7 +45,6 @@ mark_other : (f : ℕ → ℕ) (k i : ℕ) → i ≢ k → mark (without f k) i 
 mark_other f k i n = grind (arith, common_steps, cases_eq (i / 64) (k / 64), bit_turned_other (f (i / 64)) (i % 64) (k % 64))
 
 pub marks_struck : (f : ℕ → ℕ) (k n : ℕ) → mark f k ≡ true → marks_of (without f k) n ≡ set (marks_of f n) k false
-unfolding marks_of
 marks_struck f k n h = made-set (mark (without f k)) (mark f) n k (mark-struck f k h) (λ i b d. mark_other f k i d)
 
 pub clear_struck : (f : ℕ → ℕ) (k n : ℕ) → mark f k ≡ true → Clear n f → Clear n (without f k)

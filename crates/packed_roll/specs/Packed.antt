@@ -5,7 +5,7 @@ use Rattle.packed_roll.specs.Words.{mark, marks_of, word_in}
 use Rattle.packed_roll.specs.Trail.{saves_of, words_at}
 use Rattle.packed_roll.specs.declared.packed.PackedRoll.{PackedRoll}
 
-unfoldable pub meaning_of : PackedRoll → Meaning
+abbrev pub meaning_of : PackedRoll → Meaning
 meaning_of p = record {
   marks = marks_of (word_in p.words.bits) p.size;
   saves = saves_of p.trail.saves p.size (word_in p.words.bits) p.kept;

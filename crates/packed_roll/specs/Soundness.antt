@@ -10,21 +10,17 @@ use Rattle.packed_roll.specs.declared.packed.PackedRoll.{PackedRoll}
 use Rattle.packed_roll.specs.declared.trail.Save.{Save}
 
 pub length_marks : (f : ℕ → ℕ) (n : ℕ) → length (marks_of f n) ≡ n
-unfolding marks_of
 length_marks f n = length-made (mark f) n
 
 pub length_saves : (saves : List Save) (n : ℕ) (f : ℕ → ℕ) (K : ℕ) → length (saves_of saves n f K) ≡ K
-unfolding saves_of
 length_saves saves n f zero = refl
 length_saves saves n f (suc K) = ap suc (length_saves saves n (rewound (save_at saves K) f) K)
 
 pub sized_saves : (saves : List Save) (n : ℕ) (f : ℕ → ℕ) (K : ℕ) → Sized n (saves_of saves n f K)
-unfolding saves_of
 sized_saves saves n f zero = tt
 sized_saves saves n f (suc K) = (length_marks (rewound (save_at saves K) f) n, sized_saves saves n (rewound (save_at saves K) f) K)
 
 pub sound_of : (p : PackedRoll) → Sound 4096 (meaning_of p)
-unfolding meaning_of
 sound_of p =
     let f : ℕ → ℕ = word_in p.words.bits in
     let s : p.size ≤ 4096 = p.few in

@@ -14,12 +14,12 @@ abbrev pub rewound : Save → (ℕ → ℕ) → ℕ → ℕ
 rewound save later w = if bit save.noted w then slice_index save.words w else later w
 
 -- the words at the save L of K saves kept, where f gives the words now
-unfoldable pub words_at : List Save → (ℕ → ℕ) → ℕ → ℕ → ℕ → ℕ
+abbrev pub words_at : List Save → (ℕ → ℕ) → ℕ → ℕ → ℕ → ℕ
 words_at saves f zero L = f
 words_at saves f (suc K) L = if L == K then rewound (save_at saves K) f else words_at saves (rewound (save_at saves K) f) K L
 
 -- the marks at each of K saves kept, the newest first
-unfoldable pub saves_of : List Save → ℕ → (ℕ → ℕ) → ℕ → List Marks
+abbrev pub saves_of : List Save → ℕ → (ℕ → ℕ) → ℕ → List Marks
 saves_of saves n f zero = []
 saves_of saves n f (suc K) = marks_of (rewound (save_at saves K) f) n ∷ saves_of saves n (rewound (save_at saves K) f) K
 

@@ -25,7 +25,7 @@ abbrev pub mark : (ℕ → ℕ) → ℕ → Bool
 mark f k = bit (f (k / 64)) (k % 64)
 
 -- the marks of the numbers below n
-unfoldable pub marks_of : (ℕ → ℕ) → ℕ → Marks
+abbrev pub marks_of : (ℕ → ℕ) → ℕ → Marks
 marks_of f n = map (mark f) (range_with_len 0 n)
 
 -- the words of a list; 0 beyond it

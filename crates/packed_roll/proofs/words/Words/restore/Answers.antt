@@ -3,11 +3,8 @@ use Rattle.std.proofs.lemmas.Nat.{one_shl}
 use lib.Count.{count_trailing_zeros}
 use Rattle.packed_roll.specs.Words.{LowestBit}
 use Rattle.packed_roll.proofs.BitLaws.{lowest_of, less_turned}
-use Rattle.packed_roll.proofs.Restoring.{restoring_none, restoring_more, restored}
+use Rattle.packed_roll.proofs.Restoring.{restoring_more}
 use Rattle.packed_roll.proofs.words.Words.restore.Goals as goal
-
-pub loop-left-init : goal.loop-left-init
-loop-left-init c = restoring_none c.args.save.now c.args.self.now.bits
 
 pub loop-left-preserved : goal.loop-left-preserved
 loop-left-preserved c =
@@ -23,6 +20,3 @@ loop-left-smaller c =
     let t : ℕ = count_trailing_zeros 64 left in
     let low : LowestBit left 0 t = lowest_of left (omega arith) (let n = c.loop-left-test.true in omega arith) in
     rw (one_shl t 64 low.within) (less_turned left t low.here)
-
-pub returns : goal.returns
-returns c = restored c.args.save.now c.args.self.now.bits c.loop-left.self.bits c.loop-left.left c.loop-left.invariant c.loop-left-test.false

@@ -10,7 +10,6 @@ use Rattle.packed_roll.proofs.FirstLaws.{NoneBetween, FirstMark, found, passed}
 use Rattle.packed_roll.proofs.packed.kind.PackedRollRoll.first_from.Goals as goal
 
 at : (p : PackedRoll) (i : ℕ) → stands_at (meaning_of p) i ≡ mark (word_in p.words.bits) i
-unfolding meaning_of
 at p i = marks_at p.size (word_in p.words.bits) p.now.clear i
 
 first : (p : PackedRoll) (place k : ℕ) → FirstMark (word_in p.words.bits) place k → Some k ≡ first_at (meaning_of p) place

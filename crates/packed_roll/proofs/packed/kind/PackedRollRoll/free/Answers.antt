@@ -1,7 +1,5 @@
 use Rattle.std.proofs.Common.{arith}
-use Rattle.packed_roll.specs.Packed.{meaning_of}
 use Rattle.packed_roll.proofs.packed.kind.PackedRollRoll.free.Goals as goal
 
 pub returns : goal.returns
-unfolding meaning_of
 returns c = omega arith
