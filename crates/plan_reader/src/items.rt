@@ -22,7 +22,7 @@ impl Reader<'_> {
         ensures { Reads self.old self.new result (λ b. repeat (I.reading item.now b) n) }
     {
         let mut list = ShortList::new();
-        for _ in 0..n {
+        for _ in 0..usize::from(n) {
             let one = item.read(self, &list)?;
             list.push(one);
         }

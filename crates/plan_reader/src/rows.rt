@@ -20,17 +20,18 @@ impl Item for Columns<'_> {
     ghost reading = { λ c b before. value_of b c.counts.now c.scope.now before };
 
     fn read(&self, reader: &mut Reader<'_>, before: &ShortList) -> Result<u8, Refusal> {
-        let setting = self.scope.at(usize::from(before.len()));
+        let setting = self.scope.at(before.as_slice().len());
         reader.below(self.counts.at(usize::from(setting)))
     }
 }
 
-// Whether a row is above the one before it, if there is one.
+// Whether a row is above the one before it, if there is one. `cmp` goes past equal values faster than `<`, which
+// finds an order for each pair of them.
 fn is_above(last: &Option<ShortList>, row: &ShortList) -> bool
     ensures { result ≡ above last.now row.now }
 {
     match last {
-        Some(last) => last.as_slice() < row.as_slice(),
+        Some(last) => last.as_slice().cmp(&row.as_slice()).is_lt(),
         None => true,
     }
 }

@@ -4,11 +4,12 @@ ghost use Rattle.plan_format.specs.Reading.{may_follow};
 use std::marker::Model;
 
 // Up to 32 small numbers, in the order in which they came: value counts, a scope or a row. The memory is fixed,
-// since reading a file takes no heap.
+// since reading a file takes no heap. The length is a whole word, since rows are copied and a list of 33 bytes
+// is copied in pieces.
 #[derive(Drop)]
 pub(crate) struct ShortList {
     items: [u8; 32],
-    len: u8,
+    len: usize,
 }
 
 impl Model for ShortList {
@@ -33,14 +34,14 @@ impl ShortList {
         ensures len { result ≡ length self.now }
         ensures few { result ≤ 32 }
     {
-        self.len
+        self.len as u8 // at most 32
     }
 
     pub(crate) fn as_slice(&self) -> &[u8]
         ensures items { result.now ≡ self.now }
         ensures few { length result.now ≤ 32 }
     {
-        &self.items[..usize::from(self.len)]
+        &self.items[..self.len]
     }
 
     // The number at place `i`, or 0 past the end.
@@ -55,7 +56,7 @@ impl ShortList {
         requires { length self.old < 32 }
         ensures { self.new ≡ self.old ++ number ∷ [] }
     {
-        self.items[usize::from(self.len)] = number;
+        self.items[self.len] = number;
         self.len += 1;
     }
 
