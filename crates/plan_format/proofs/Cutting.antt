@@ -11,7 +11,7 @@ use Rattle.plan_format.specs.Bits.{bits, number_at}
 use Rattle.plan_format.specs.Reading.{Read, got, refused, ◌then◌, given, repeat, may_follow, number, ranged, number_below, header, setting, value, row, table, body, padded, read}
 use Rattle.plan_format.specs.Laws.{ReadsNoFurther}
 use Rattle.plan_format.proofs.BitLaws.{bits_at, length-bits, number_got}
-use Rattle.plan_format.proofs.Exactly.{then_got}
+use Rattle.plan_format.proofs.Exactly.{then_got, given_got}
 use Rattle.plan_format.proofs.Parts.{ranged_within, repeat-length}
 
 -- of two readings, that they give the same where they see at most w bits, of k at most, and that the first moves on by no more
@@ -33,7 +33,7 @@ module _ {k : ℕ} where
   given_alike : {A : Type 0} {w : ℕ} {r s : ℕ → Read A} (test : Bool) (why : Refusal) → Alike k w r s → Alike k w (λ p. given test why (r p)) (λ p. given test why (s p))
   given_alike {A} {w} {r} test why x = record {
     same = λ p h. ap (λ (t : Read A). given test why t) (x.same p h);
-    moves = λ p a q e. grind (arith, x.moves p a q);
+    moves = λ p a q e. x.moves p a q (given_got test why (r p) a q e).1;
   }
 
   -- one reading after another, which may know what the first gave

@@ -16,6 +16,9 @@ use Rattle.plan_format.proofs.BitLaws.{number_at-below, bits_below, length-spell
 pub then_got : {A B : Type 0} (r : Read A) (k : A → ℕ → Read B) (y : B) (q : ℕ) → (r then k) ≡ got y q → (x : A) × (m : ℕ) × (r ≡ got x m) × (k x m ≡ got y q)
 then_got r k y q e = grind arith
 
+pub given_got : {A : Type 0} (t : Bool) (x : Refusal) (r : Read A) (y : A) (q : ℕ) → given t x r ≡ got y q → (t ≡ true) × (r ≡ got y q)
+given_got t x r y q e = grind arith
+
 pub got_same : {A : Type 0} {x y : A} {p q : ℕ} → got x p ≡ got y q → (x ≡ y) × (p ≡ q)
 got_same e = grind arith
 
@@ -99,7 +102,10 @@ tested_exact test why x = record { reads = λ p a q e. grind (arith, x.reads p a
 -- a reading under a test made before it
 pub given_exact : {A : Type 0} {b : List ℕ} {read : ℕ → Read A} {good : A → Type 0} {spelt : A → List ℕ} (test : Bool) (why : Refusal)
     → Exact b read good spelt → Exact b (λ p. given test why (read p)) (λ a. (test ≡ true) × good a) spelt
-given_exact test why x = record { reads = λ p a q e. grind (arith, x.reads p a q); stands = λ p a q h. grind (arith, x.stands p a q (h.0.1, h.1)) }
+given_exact {read = read} test why x = record {
+  reads = λ p a q e. let g = given_got test why (read p) a q e in let i = x.reads p a q g.1 in ((g.0, i.0), i.1);
+  stands = λ p a q h. grind (arith, x.stands p a q (h.0.1, h.1));
+}
 
 -- a reading, then another that depends on what was read; `part` finds in the whole what was read first
 pub then_exact : {A C : Type 0} {b : List ℕ} {first : ℕ → Read A} {rest : ℕ → A → ℕ → Read C} {good : A → Type 0} {goods : A → C → Type 0}
