@@ -11,7 +11,7 @@ use Rattle.packed_roll.proofs.BitLaws.{bit_turned_other, bit_turned_same, bit-ze
 use Rattle.packed_roll.proofs.WordLaws.{word_other}
 
 -- the saves below K are the same
-abbrev SameBelow : (saves saves' : List Save) → ℕ → Type 0
+abbrev pub SameBelow : (saves saves' : List Save) → ℕ → Type 0
 SameBelow saves saves' K = (J : ℕ) → J < K → save_at saves' J ≡ save_at saves J
 
 saves_keep : (saves saves' : List Save) (n K : ℕ) (f : ℕ → ℕ) → SameBelow saves saves' K → saves_of saves' n f K ≡ saves_of saves n f K
