@@ -5,7 +5,7 @@ use Rattle.std.proofs.lemmas.Bool.{lt-ltb}
 use Rattle.roll.specs.Meaning.{has, trues}
 use Rattle.std.proofs.lemmas.Grind.{common_steps}
 use Rattle.roll.proofs.Marks.{made_at, made_past, made_all, trues_all}
-use Rattle.ordered_roll.specs.Places.{front, marks_of, saves_of}
+use Rattle.ordered_roll.specs.Places.{front, marks_of, saves_of, Inverse}
 
 pub marks_at : (place : List ℕ) (c n k : ℕ) → k < n → has (marks_of place c n) k ≡ nat_lt (slice_index place k) c
 marks_at place c n k l = made_at (front place c) n k l
@@ -24,6 +24,9 @@ all_stand place n h = made_all (front place n) n (λ k l. ap (λ x. ltb x n) (h 
 
 pub all_counted : (place : List ℕ) (n : ℕ) → InOrder n place → trues (marks_of place n n) ≡ n
 all_counted place n h = ap trues (all_stand place n h) ∙ trues_all n
+
+pub order_inverse : (xs ys : List ℕ) (n : ℕ) → InOrder n xs → InOrder n ys → Inverse n xs ys
+order_inverse xs ys n f g k l = rw (f k l) (l, g k l)
 
 -- A save more.
 

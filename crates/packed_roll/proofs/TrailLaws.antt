@@ -11,7 +11,7 @@ use Rattle.packed_roll.proofs.BitLaws.{bit_turned_other, bit_turned_same, bit-ze
 use Rattle.packed_roll.proofs.WordLaws.{word_other}
 
 -- the saves below K are the same
-abbrev SameBelow : (saves saves' : List Save) → ℕ → Type 0
+abbrev pub SameBelow : (saves saves' : List Save) → ℕ → Type 0
 SameBelow saves saves' K = (J : ℕ) → J < K → save_at saves' J ≡ save_at saves J
 
 saves_keep : (saves saves' : List Save) (n K : ℕ) (f : ℕ → ℕ) → SameBelow saves saves' K → saves_of saves' n f K ≡ saves_of saves n f K
@@ -41,6 +41,10 @@ module _ (saves : List Save) (K : ℕ) (s : Save) (f g : ℕ → ℕ) (l : K < l
 -- a new save has no word noted
 rewound_fresh : (s : Save) (f : ℕ → ℕ) → s.noted ≡ 0 → rewound s f ≡ f
 rewound_fresh s f e = fun_ext (λ w. grind (arith, bit-zero w))
+
+pub at-saved : (saves : List Save) (K i : ℕ) (s : Save) (f : ℕ → ℕ) → K < length saves → s.noted ≡ 0
+    → words_at (set saves K s) f (suc K) i ≡ cond (eqb i K) f (words_at saves f K i)
+at-saved saves K i s f l z = words-set saves K s f f l (rewound_fresh s f z) i
 
 -- the word w is overwritten: f becomes f', which is f but at w
 rewound_noting : (s : Save) (w : ℕ) (f f' : ℕ → ℕ) → w < length s.words → ((v : ℕ) → v ≢ w → f' v ≡ f v) → rewound (noting s w (f w)) f' ≡ rewound s f
@@ -82,7 +86,7 @@ module _ (saves : List Save) (K : ℕ) (s : Save) (f : ℕ → ℕ) (n : ℕ) (l
 
   pub tallied_saved : Tallied n s.count f → ((i : ℕ) → i < K → Tallied n (save_at saves i).count (words_at saves f K i))
       → (i : ℕ) → i < suc K → Tallied n (save_at (set saves K s) i).count (words_at (set saves K s) f (suc K) i)
-  tallied_saved now older i h = rw (words-set saves K s f f l (rewound_fresh s f z) i) (grind (arith, common_steps, cases_eq i K, older i))
+  tallied_saved now older i h = rw (at-saved saves K i s f l z) (grind (arith, common_steps, cases_eq i K, older i))
 
 -- Back to the newest save, K.
 

@@ -35,7 +35,8 @@ pub(crate) struct Trail {
 }
 
 impl Trail {
-    // Before the word w, so far `old`, is overwritten: the newest of the saves kept notes it.
+    // Before the word w, so far `old`, is overwritten: the newest of the saves kept notes it. That w is within its words is
+    // told here too, since the roll holds the saves in this array.
     pub(crate) fn note(&mut self, kept: u32, w: u32, old: u64)
         requires saves { kept ≤ 32 }
         requires word { w < 64 }

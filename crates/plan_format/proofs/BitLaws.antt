@@ -17,7 +17,7 @@ pub length-bits : (file : List ℕ) → length (bits file) ≡ 8 * length file
 length-bits [] = refl
 length-bits (b ∷ bs) = omega (arith, length-bits bs)
 
-spell-at : (w n i : ℕ) → i < w → get_or (spell w n) i 0 ≡ n / 2 ^ (w - 1 - i) % 2
+pub spell-at : (w n i : ℕ) → i < w → get_or (spell w n) i 0 ≡ n / 2 ^ (w - 1 - i) % 2
 spell-at zero n i h = grind arith
 spell-at (suc w) n zero h = grind arith
 spell-at (suc w) n (suc i) h = grind (arith, spell-at w n i)

@@ -16,6 +16,9 @@ use Rattle.plan_format.proofs.BitLaws.{number_at-below, bits_below, length-spell
 pub then_got : {A B : Type 0} (r : Read A) (k : A → ℕ → Read B) (y : B) (q : ℕ) → (r then k) ≡ got y q → (x : A) × (m : ℕ) × (r ≡ got x m) × (k x m ≡ got y q)
 then_got r k y q e = grind arith
 
+pub given_got : {A : Type 0} (t : Bool) (x : Refusal) (r : Read A) (y : A) (q : ℕ) → given t x r ≡ got y q → (t ≡ true) × (r ≡ got y q)
+given_got t x r y q e = grind arith
+
 pub got_same : {A : Type 0} {x y : A} {p q : ℕ} → got x p ≡ got y q → (x ≡ y) × (p ≡ q)
 got_same e = grind arith
 
@@ -25,14 +28,14 @@ pub record Stands (b : List ℕ) (p : ℕ) (e : List ℕ) (q : ℕ) : Type 0 whe
   pub rest : drop p b ≡ e ++ drop q b
 
 -- two lists one after the other
-stands_join : {b : List ℕ} {p m q : ℕ} {e f : List ℕ} → Stands b p e m → Stands b m f q → Stands b p (e ++ f) q
+pub stands_join : {b : List ℕ} {p m q : ℕ} {e f : List ℕ} → Stands b p e m → Stands b m f q → Stands b p (e ++ f) q
 stands_join h k = grind (arith, append_assoc {A = ℕ}, length-append {A = ℕ})
 
-stands_split : {b : List ℕ} {p q : ℕ} {e f : List ℕ} → Stands b p (e ++ f) q → Stands b p e (p + length e) × Stands b (p + length e) f q
+pub stands_split : {b : List ℕ} {p q : ℕ} {e f : List ℕ} → Stands b p (e ++ f) q → Stands b p e (p + length e) × Stands b (p + length e) f q
 stands_split {b} {p} {q} {e} {f} h =
     grind (arith, append_assoc {A = ℕ}, length-append {A = ℕ}, drop-drop (length e) p b, drop_at e (f ++ drop q b) (length e) refl)
 
-stands_within : {b : List ℕ} {p q : ℕ} {e : List ℕ} → 1 ≤ length e → Stands b p e q → q ≤ length b
+pub stands_within : {b : List ℕ} {p q : ℕ} {e : List ℕ} → 1 ≤ length e → Stands b p e q → q ≤ length b
 stands_within {b} {p} {q} {e} l h = omega (arith, h.to, simp (length-drop, length-append) at (ap length h.rest))
 
 -- one bit, and the first of some
@@ -52,7 +55,7 @@ abbrev pub Chain : {A : Type 0} → (List A → A → Type 0) → List A → Typ
 Chain {A} good xs = (i : ℕ) (d : A) → i < length xs → good (take i xs) (get_or xs i d)
 
 -- the last bit of a number
-spell_last : (w n : ℕ) → spell (suc w) n ≡ spell w (n / 2) ++ n % 2 ∷ []
+pub spell_last : (w n : ℕ) → spell (suc w) n ≡ spell w (n / 2) ++ n % 2 ∷ []
 spell_last zero n = grind arith
 spell_last (suc w) n = grind (arith, spell_last w n, shr-shr n 1 w)
 
@@ -68,7 +71,7 @@ number_stands b two p (suc w) h =
     let s : spell (suc w) (n * 2 + x) ≡ spell w n ++ x ∷ [] = spell_last w (n * 2 + x) ∙ rw (d, m) refl in
     subst (λ e. Stands b p e (p + suc w)) (sym s) (stands_join (number_stands b two p w (omega arith)) (one_stands b (p + w) (p + suc w) (omega arith) (omega arith)))
 
-number_reads : (b : List ℕ) (p w v q : ℕ) → v < 2 ^ w → Stands b p (spell w v) q → number_at b p w ≡ v
+pub number_reads : (b : List ℕ) (p w v q : ℕ) → v < 2 ^ w → Stands b p (spell w v) q → number_at b p w ≡ v
 number_reads b p zero v q l h = omega arith
 number_reads b p (suc w) v q l h =
     let r = stands_split (subst (λ e. Stands b p e q) (spell_last w v) h) in
@@ -77,7 +80,7 @@ number_reads b p (suc w) v q l h =
     let x : get_or b (p + w) 0 ≡ v % 2 = ap (λ k. get_or b (p + k) 0) (sym (length-spell w (v / 2))) ∙ first_stands r.1 in
     omega arith
 
-number_exact : (file : List ℕ) (w : ℕ) → 1 ≤ w → Exact (bits file) (number (bits file) w) (λ v. v < 2 ^ w) (spell w)
+pub number_exact : (file : List ℕ) (w : ℕ) → 1 ≤ w → Exact (bits file) (number (bits file) w) (λ v. v < 2 ^ w) (spell w)
 number_exact file w some = record {
   reads = λ p v q e. grind (arith, nat_tests, number_at-below (bits file) (bits_below file) p w, number_stands (bits file) (bits_below file) p w);
   stands = λ p v q h. grind (arith, nat_tests, number_reads (bits file) p w v q h.0 h.1, length-spell w v, h.1.to, stands_within {b = bits file} {p = p} {q = q} {e = spell w v});
@@ -99,7 +102,10 @@ tested_exact test why x = record { reads = λ p a q e. grind (arith, x.reads p a
 -- a reading under a test made before it
 pub given_exact : {A : Type 0} {b : List ℕ} {read : ℕ → Read A} {good : A → Type 0} {spelt : A → List ℕ} (test : Bool) (why : Refusal)
     → Exact b read good spelt → Exact b (λ p. given test why (read p)) (λ a. (test ≡ true) × good a) spelt
-given_exact test why x = record { reads = λ p a q e. grind (arith, x.reads p a q); stands = λ p a q h. grind (arith, x.stands p a q (h.0.1, h.1)) }
+given_exact {read = read} test why x = record {
+  reads = λ p a q e. let g = given_got test why (read p) a q e in let i = x.reads p a q g.1 in ((g.0, i.0), i.1);
+  stands = λ p a q h. grind (arith, x.stands p a q (h.0.1, h.1));
+}
 
 -- a reading, then another that depends on what was read; `part` finds in the whole what was read first
 pub then_exact : {A C : Type 0} {b : List ℕ} {first : ℕ → Read A} {rest : ℕ → A → ℕ → Read C} {good : A → Type 0} {goods : A → C → Type 0}
@@ -144,7 +150,7 @@ chain_last : {A : Type 0} (good : List A → A → Type 0) (ys : List A) (x : A)
 chain_last good ys x c = grind (arith, common_steps, c (length ys) x)
 
 -- a list that is not empty, by its last item
-last_of : {A : Type 0} (n : ℕ) (xs : List A) → length xs ≡ suc n → (ys : List A) × (x : A) × (xs ≡ ys ++ x ∷ []) × (length ys ≡ n)
+pub last_of : {A : Type 0} (n : ℕ) (xs : List A) → length xs ≡ suc n → (ys : List A) × (x : A) × (xs ≡ ys ++ x ∷ []) × (length ys ≡ n)
 last_of n [] e = grind arith
 last_of n (y ∷ ys) e = (take n (y ∷ ys), get_or (y ∷ ys) n y, grind (arith, common_steps, take_all (n + 1) (y ∷ ys)), grind (arith, common_steps))
 

@@ -9,3 +9,4 @@ pub mod Whole
 pub mod Unique
 pub mod Places
 pub mod Cutting
+pub mod Moves

@@ -6,7 +6,7 @@ use Rattle.std.specs.List.{Contains}
 use Rattle.roll.specs.Meaning.{Meaning, standing, stands_at, size_of, struck, struck_all}
 use Rattle.roll.proofs.Counting.{counted}
 
-struck_other : (m : Meaning) (k i : ℕ) → i ≢ k → stands_at (struck m k) i ≡ stands_at m i
+pub struck_other : (m : Meaning) (k i : ℕ) → i ≢ k → stands_at (struck m k) i ≡ stands_at m i
 struck_other m k i n = grind (arith, common_steps)
 
 struck_at : (m : Meaning) (k i : ℕ) → k ≡ i → stands_at (struck m k) i ≡ false
@@ -16,7 +16,7 @@ struck_at m k i e = grind (arith, common_steps)
 out_stays : (m : Meaning) (k i : ℕ) → stands_at m i ≡ false → stands_at (struck m k) i ≡ false
 out_stays m k i h = grind (arith, common_steps)
 
-out_stays_all : (m : Meaning) (ks : List ℕ) (i : ℕ) → stands_at m i ≡ false → stands_at (struck_all m ks) i ≡ false
+pub out_stays_all : (m : Meaning) (ks : List ℕ) (i : ℕ) → stands_at m i ≡ false → stands_at (struck_all m ks) i ≡ false
 out_stays_all m [] i h = h
 out_stays_all m (k ∷ ks) i h = out_stays_all (struck m k) ks i (out_stays m k i h)
 
