@@ -76,7 +76,7 @@ impl Roll for OrderedRoll {
     }
 
     fn first_from(&self, place: u32) -> Option<u32> {
-        (place..self.size).find(|k| self.stands(*k))
+        (place..self.size).find(|k| u32::from(self.lists.place[*k as usize]) < self.count)
     }
 
     fn save(&mut self) -> Result<(), Refusal> {

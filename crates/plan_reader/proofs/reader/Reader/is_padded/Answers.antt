@@ -14,8 +14,8 @@ returns-then-end-self-lt8 c =
     let n = c.end-end.result - p in
     let e = length-bits c.args.self.now.file.now in
     let h = lt-ltb (length b - p) 8 (omega arith) in
-    rw h (all_from_yields_List (λ k. eqb (get_or b k 0) 0) _ _ c.all.result c.all.ensures.ran (YieldsList-from_range p c.end-end.result n refl refl) (λ x z q k. search (rules, tests))
-    ∙ all_zeros b p n (omega (arith, c.type_inv.self)))
+    rw h (all_from_yields_List (λ k. eqb (get_or b k 0) 0) _ _ c.all.result c.all.ensures.ran (YieldsList-from_range _ _ n refl (omega arith)) (λ x z q k. search (rules, tests))
+    ∙ all_zeros b _ p n (omega arith) (omega (arith, c.type_inv.self)))
 
 pub returns-else-end-self-lt8 : goal.returns-else-end-self-lt8
 returns-else-end-self-lt8 c =

@@ -1,26 +1,38 @@
-use Rattle.std.proofs.Common.{◌≡◌, ℕ, ◌<◌, ◌≤◌, true, false, Some, None, Option, MatchOption, sym, inl, inr, rules, arith}
-use Rattle.std.proofs.lemmas.Bool.{cases_lt}
-use Rattle.std.proofs.lemmas.List.{get_or_past}
+use Rattle.std.proofs.Common.{◌≡◌, ℕ, ◌<◌, ◌≤◌, false, get_or, Some, None, Option, MatchOption, sym, ◌∙◌, inl, inr, rules, arith}
+use Rattle.std.proofs.lemmas.Bool.{cases_lt, lt-ltb, le-ltb}
+use Rattle.std.proofs.lemmas.Bool.Decides.{nat_tests}
 use Rattle.std.proofs.lemmas.Iterator.{first_from_Range}
-use Rattle.roll.specs.Meaning.{Meaning, first_at, size_of, stands_at}
+use Rattle.roll.specs.Meaning.{first_at, stands_at}
 use Rattle.roll.proofs.First.{lowest_is, none_is}
 use Rattle.ordered_roll.specs.Ordered.{meaning_of}
-use Rattle.ordered_roll.specs.Soundness.{length_marks}
+use Rattle.ordered_roll.specs.declared.ordered.OrderedRoll.{OrderedRoll}
+use Rattle.ordered_roll.proofs.PlaceLaws.{marks_at, marks_past}
 use Rattle.ordered_roll.proofs.ordered.kind.OrderedRollRoll.first_from.Goals as goal
 
--- what a search of the numbers from p up to n finds is the first that stands, where no size is above n
-found : (m : Meaning) (p n : ℕ) (r : Option ℕ) → size_of m ≤ n
-    → MatchOption r ((k : ℕ) → p ≤ k → k < n → stands_at m k ≡ false)
-    (λ i. (p ≤ i) × (i < n) × (stands_at m i ≡ true) × ((k : ℕ) → p ≤ k → k < i → stands_at m k ≡ false))
-    → r ≡ first_at m p
-found m p n None l h =
-    sym (none_is m p (λ k a. elim (cases_lt k n) [ inl b ↦ h k a b | inr b ↦ get_or_past m.marks k false (omega arith) ]))
-found m p n (Some i) l h = sym (lowest_is m p i (record { from = h.0; here = h.2; before = h.3 }))
+out : (p : OrderedRoll) (k : ℕ) → k < p.size → p.count ≤ get_or p.lists.place k 0 → stands_at (meaning_of p) k ≡ false
+out p k l b = marks_at p.lists.place p.count p.size k l ∙ le-ltb (get_or p.lists.place k 0) p.count b
+
+-- what a search of the numbers from a on finds, those with a place in front, is the first that stands
+found : (p : OrderedRoll) (a : ℕ) (r : Option ℕ)
+    → MatchOption r ((k : ℕ) → a ≤ k → k < p.size → p.count ≤ get_or p.lists.place k 0)
+    (λ i. (a ≤ i) × (i < p.size) × (get_or p.lists.place i 0 < p.count) × ((k : ℕ) → a ≤ k → k < i → p.count ≤ get_or p.lists.place k 0))
+    → r ≡ first_at (meaning_of p) a
+found p a None h =
+    sym (none_is (meaning_of p) a (λ k b.
+    elim (cases_lt k p.size) [
+      | inl l ↦ out p k l (h k b l)
+      | inr l ↦ marks_past p.lists.place p.count p.size k l
+    ]))
+found p a (Some i) h =
+    sym (lowest_is (meaning_of p) a i (record {
+      from = h.0;
+      here = marks_at p.lists.place p.count p.size i h.1 ∙ lt-ltb (get_or p.lists.place i 0) p.count h.2;
+      before = λ k b l. out p k (omega (arith, h.1)) (h.3 k b l);
+    }))
 
 pub returns : goal.returns
 returns c =
     let p = c.args.self.now in
-    let m = meaning_of p in
-    let size = length_marks p.lists.place p.count p.size in
-    found m c.args.place p.size c.find.result (omega arith)
-    (first_from_Range _ _ _ _ (λ k. stands_at m k ≡ true) (λ k. stands_at m k ≡ false) c.find.ensures.ran (λ x q k. search rules) (λ x q k. search rules))
+    let place = p.lists.place in
+    found p c.args.place c.find.result
+    (first_from_Range _ _ _ _ (λ k. get_or place k 0 < p.count) (λ k. p.count ≤ get_or place k 0) c.find.ensures.ran (λ x q k. grind (arith, nat_tests)) (λ x q k. (search rules, grind (arith, nat_tests))))
