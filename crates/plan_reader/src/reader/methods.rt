@@ -1,5 +1,5 @@
-ghost use Rattle.std.specs.Prelude.{◌≡◌, ◌*◌, ◌<◌, ◌≤◌, length, slice_index, take};
-ghost use Rattle.plan_format.specs.Bits.{bits};
+ghost use Rattle.std.specs.Prelude.{◌≡◌, ◌*◌, ◌/◌, ◌<◌, ◌≤◌, length, slice_index, take};
+ghost use Rattle.plan_format.specs.Bits.{bits, number_at};
 ghost use Rattle.plan_format.specs.Reading.{number as number_of, number_below, padded, ranged as ranged_of};
 ghost use Rattle.plan_reader.specs.Outcomes.{Reads};
 
@@ -43,6 +43,25 @@ impl<'a> Reader<'a> {
         byte >> (7 - place % 8) & 1
     }
 
+    // The byte at an index, or 0 past the end.
+    fn byte(&self, i: u32) -> u8
+        ensures { result ≡ slice_index self.now.file.now i }
+    {
+        self.file.get(i as usize).copied().unwrap_or(0)
+    }
+
+    // The number that the three bytes from the place's own on spell: whatever starts at the place and has up to 16 bits
+    // lies in them.
+    fn three_bytes(&self) -> u32
+        ensures { result ≡ number_at (bits self.now.file.now) (8 * (self.now.place / 8)) 24 }
+    {
+        let first = self.place / 8;
+        let high = u32::from(self.byte(first));
+        let middle = u32::from(self.byte(first + 1));
+        let low = u32::from(self.byte(first + 2));
+        (high * 256 + middle) * 256 + low
+    }
+
     // The number of `width` bits.
     pub(crate) fn number(&mut self, width: u32) -> Result<u16, Refusal>
         requires { width ≤ 16 }
@@ -53,9 +72,10 @@ impl<'a> Reader<'a> {
         if after > self.end() {
             return Err(Refusal::CutShort(place));
         }
-        let value = (place..after).fold(0, |value, p| value << 1 | u16::from(self.bit(p)));
+        let past = 24 - place % 8 - width; // the bits after the number
+        let value = (self.three_bytes() >> past) % (1 << width);
         self.place = after;
-        Ok(value)
+        Ok(value as u16) // of at most 16 bits
     }
 
     // The number of `width` bits, from `low` to `high`.

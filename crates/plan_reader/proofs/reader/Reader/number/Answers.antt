@@ -1,9 +1,8 @@
-use Rattle.std.proofs.Common.{rules, tests, ◌≡◌, sym, refl, ◌∙◌, arith}
-use Rattle.std.proofs.lemmas.Iterator.{YieldsList-from_range}
-use Rattle.std.proofs.lemmas.Iterator.Consumers.{fold_from_yields_List}
+use Rattle.std.proofs.Common.{◌≡◌, ◌+◌, ◌-◌, ◌*◌, ◌/◌, ◌%◌, ◌^◌, sym, refl, ap, ◌∙◌, arith}
+use Rattle.std.proofs.lemmas.Nat.{one_shl}
 use Rattle.plan_format.specs.Bits.{bits, number_at}
-use Rattle.plan_format.proofs.BitLaws.{length-bits, number_got, number_short}
-use Rattle.plan_reader.proofs.NumberLaws.{with_bit, bits_together}
+use Rattle.plan_format.proofs.BitLaws.{bits_below, length-bits, number_got, number_short}
+use Rattle.plan_reader.proofs.NumberLaws.{number_within}
 use Rattle.plan_reader.proofs.reader.Reader.number.Goals as goal
 
 pub returns-then-after-end : goal.returns-then-after-end
@@ -15,8 +14,14 @@ returns-then-after-end c =
 pub returns : goal.returns
 returns c =
     let file = c.args.self.now.file.now in
+    let b = bits file in
     let p = c.args.self.now.place in
+    let w = c.args.width in
+    let k = 24 - p % 8 - w in
     let e = length-bits file in
-    let f = fold_from_yields_List _ (with_bit (bits file)) 0 c.fold-value.result c.fold-value.ensures.ran (YieldsList-from_range p _ c.args.width refl (omega arith)) (λ a x z q k. search (rules, tests)) in
-    let v : c.fold-value.result ≡ number_at (bits file) p c.args.width = f ∙ bits_together file p c.args.width (omega arith) in
-    record { reads = rw v (sym (number_got (bits file) c.args.width p (omega arith))); same = refl }
+    let long : p % 8 + (w + k) ≡ 24 = omega arith in
+    let at : 8 * (p / 8) + p % 8 ≡ p = omega arith in
+    let n : c.three_bytes.result ≡ number_at b (8 * (p / 8)) (p % 8 + (w + k)) = c.three_bytes.ensures ∙ ap (number_at b (8 * (p / 8))) (sym long) in
+    let v : c.three_bytes.result / 2 ^ k % 2 ^ w ≡ number_at b p w =
+    ap (λ x. x / 2 ^ k % 2 ^ w) n ∙ number_within b (bits_below file) (8 * (p / 8)) (p % 8) w k ∙ ap (λ q. number_at b q w) at in
+    record { reads = rw (one_shl w 32 (omega arith), v) (sym (number_got b w p (omega arith))); same = refl }
