@@ -20,17 +20,17 @@ mark_in f w i l h =
     let r : i % 64 ≡ i - w * 64 = omega arith in
     cc
 
--- all before the word w are passed, and the next that stands is its bit t
-pub found : (f : ℕ → ℕ) (p w t : ℕ) → NoneBetween f p (w * 64) → LowestBit (f w) (p - w * 64) t → FirstMark f p (w * 64 + t)
-found f p w t none low =
+-- all up to bit j of the word w are passed, and the next that stands is bit t
+pub found : (f : ℕ → ℕ) (p w j t : ℕ) → p ≤ w * 64 + j → NoneBetween f p (w * 64 + j) → LowestBit (f w) j t → FirstMark f p (w * 64 + t)
+found f p w j t l none low =
     let a = low.from in
     let b = low.within in
     record {
       from = omega arith;
       here = grind (arith, mark_in f w (w * 64 + t), low.here);
-      before = λ i q h. grind (arith, cases_lt i (w * 64), none i q, mark_in f w i, low.before (i - w * 64));
+      before = λ i q h. grind (arith, cases_lt i (w * 64 + j), none i q, mark_in f w i, low.before (i - w * 64));
     }
 
--- no bit of the word w stands from the place p on
-pub passed : (f : ℕ → ℕ) (p w : ℕ) → NoneBetween f p (w * 64) → ((i : ℕ) → p - w * 64 ≤ i → bit (f w) i ≡ false) → NoneBetween f p ((w + 1) * 64)
-passed f p w none clear i q h = grind (arith, cases_lt i (w * 64), none i q, mark_in f w i, clear (i - w * 64))
+-- no bit of the word w stands from bit j on
+pub passed : (f : ℕ → ℕ) (p w j : ℕ) → NoneBetween f p (w * 64 + j) → ((i : ℕ) → j ≤ i → bit (f w) i ≡ false) → NoneBetween f p ((w + 1) * 64)
+passed f p w j none clear i q h = grind (arith, cases_lt i (w * 64 + j), none i q, mark_in f w i, clear (i - w * 64))

@@ -1,4 +1,4 @@
-use Rattle.std.proofs.Common.{◌≡◌, ℕ, ◌*◌, ◌≤◌, Some, None, sym, ◌∙◌, inl, inr, arith}
+use Rattle.std.proofs.Common.{◌≡◌, ℕ, ◌+◌, ◌-◌, ◌*◌, ◌≤◌, Some, None, sym, ◌∙◌, inl, inr, arith}
 use Rattle.std.proofs.lemmas.Bool.{cases_lt}
 use Rattle.roll.specs.Meaning.{stands_at, first_at}
 use Rattle.roll.proofs.First.{lowest_is, none_is}
@@ -25,14 +25,24 @@ none p place q h l =
 pub loop-w-init : goal.loop-w-init
 loop-w-init c i l b = absurd (omega arith)
 
+-- where none before the word w stands, none stands up to the bit of the place in it either
+up_to : (f : ℕ → ℕ) (place w : ℕ) → NoneBetween f place (w * 64) → NoneBetween f place (w * 64 + (place - w * 64))
+up_to f place w h i a b = h i a (omega arith)
+
 pub loop-w-preserved : goal.loop-w-preserved
 loop-w-preserved c =
-    passed (word_in c.args.self.now.words.bits) c.args.place c.loop-w.w c.loop-w.invariant (λ i l. c.in_default.ensures i (omega arith))
+    let f = word_in c.args.self.now.words.bits in
+    let p = c.args.place in
+    let w = c.loop-w.w in
+    passed f p w (p - w * 64) (up_to f p w c.loop-w.invariant) (λ i l. c.in_default.ensures i (omega arith))
 
 pub returns-in-Some : goal.returns-in-Some
 returns-in-Some c =
+    let f = word_in c.args.self.now.words.bits in
+    let p = c.args.place in
+    let w = c.loop-w.w in
     let low = rw c.saturating_sub-from.ensures at c.in-Some.ensures in
-    first c.args.self.now c.args.place _ (found (word_in c.args.self.now.words.bits) c.args.place c.loop-w.w c.in-Some.j c.loop-w.invariant low)
+    first c.args.self.now p _ (found f p w (p - w * 64) c.in-Some.j (omega arith) (up_to f p w c.loop-w.invariant) low)
 
 pub returns : goal.returns
 returns c =
